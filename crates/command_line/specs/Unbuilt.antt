@@ -16,8 +16,7 @@ unbuilt =
     ∷ option (codes "script") (codes "--resp") ∷ option (codes "script") (codes "--mode")
     ∷ option (codes "script") (codes "--prefix") ∷ option (codes "script") (codes "--noloop")
     ∷ option (codes "script") (codes "--redirect")
-    ∷ option (codes "world") (codes "--table-max") ∷ option (codes "world") (codes "--out-max")
-    ∷ option (codes "serve") (codes "--table-max") ∷ option (codes "serve") (codes "--out-max") ∷ []
+    ∷ option (codes "world") (codes "--out-max") ∷ option (codes "serve") (codes "--out-max") ∷ []
 
 -- the word is this option, and perhaps its value after a `=`
 abbrev pub writes_option : Word → Word → Bool

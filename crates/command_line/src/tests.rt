@@ -354,9 +354,8 @@ fn values_are_those_of_the_words_or_the_defaults(rt: HostRuntime) -> Result<(), 
 // Words that are in the definition, with what is not built among them.
 const UNBUILT: &str = "\
 storm --number 0 --steps 0
-world --table-max 1
 world --out-max=1
-serve --port 1 --table-max=1
+world --table-max 1 --out-max 1
 serve --port 1 --out-max 1
 script --connect h:1 --resp 3
 script --connect h:1 --resp=3
@@ -369,7 +368,10 @@ script --redirect --connect h:1";
 const BUILT: &str = "\
 world
 world --history-max 5
+world --table-max 1
+world --table-max=4000000000 --history-max=1
 serve --port 1 --workers 2 --connections 3 --history-max=5
+serve --port 1 --table-max=1
 script --connect h:1
 script --connect=h:1 --capacity=5
 script --connect=--mode:1";
@@ -408,21 +410,15 @@ fn what_is_wrong_is_said_of_the_first_wrong_word(rt: HostRuntime) -> Result<(), 
         ("worlds", "\"worlds\" is no command"),
         ("--help", "\"--help\" is no command"),
         ("storm --number 1", "the command storm is not built yet"),
-        (
-            "world --table-max 05",
-            "--table-max and --out-max are not built yet",
-        ),
-        (
-            "serve --port 7000 --out-max=5",
-            "--table-max and --out-max are not built yet",
-        ),
+        ("world --out-max 05", "not built yet: --out-max"),
+        ("serve --port 7000 --out-max=5", "not built yet: --out-max"),
         (
             "script --connect h:1 --mode optin",
-            "--resp, --mode, --prefix, --noloop and --redirect are not built yet",
+            "not built yet: --resp, --mode, --prefix, --noloop and --redirect",
         ),
         (
             "script --noloop",
-            "--resp, --mode, --prefix, --noloop and --redirect are not built yet",
+            "not built yet: --resp, --mode, --prefix, --noloop and --redirect",
         ),
         ("serve --workers 5", "--port is missing"),
         ("script --capacity 5", "--connect is missing"),
@@ -435,6 +431,16 @@ fn what_is_wrong_is_said_of_the_first_wrong_word(rt: HostRuntime) -> Result<(), 
             "\"--table-mx\" is no option of the command",
         ),
         ("world 5", "\"5\" is no option, and no value of one"),
+        (
+            "world --table-max 05",
+            "\"05\" is no value of --table-max, which takes a number of 1 to 4000000000, \
+             with no sign and no leading zero",
+        ),
+        (
+            "serve --port 1 --table-max 0",
+            "\"0\" is no value of --table-max, which takes a number of 1 to 4000000000, \
+             with no sign and no leading zero",
+        ),
         (
             "world --history-max 05",
             "\"05\" is no value of --history-max, which takes a number of 1 to 4000000000, \

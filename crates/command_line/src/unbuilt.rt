@@ -10,7 +10,7 @@ pub fn is_unbuilt(command: &str, words: &[String]) -> bool
     match command {
         "storm" => true,
         "script" => names_script_option(words),
-        "world" | "serve" => has_option(words, "--table-max") || has_option(words, "--out-max"),
+        "world" | "serve" => has_option(words, "--out-max"),
         _ => false,
     }
 }
@@ -19,7 +19,7 @@ pub fn is_unbuilt(command: &str, words: &[String]) -> bool
 pub fn unbuilt_options(command: &str) -> &'static str {
     match command {
         "script" => "--resp, --mode, --prefix, --noloop and --redirect",
-        _ => "--table-max and --out-max",
+        _ => "--out-max",
     }
 }
 

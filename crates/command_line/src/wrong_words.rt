@@ -6,8 +6,8 @@ use std::fmt;
 
 /// The one-line forms of the commands.
 pub const FORMS: &str = "\
-usage: zeovalki world [--history-max N] < SCHEDULE
-       zeovalki serve --port N [--workers N] [--connections N] [--history-max N]
+usage: zeovalki world [--table-max N] [--history-max N] < SCHEDULE
+       zeovalki serve --port N [--workers N] [--connections N] [--table-max N] [--history-max N]
        zeovalki script --connect HOST:PORT [--capacity N] < SCRIPT
 An option is --name value or --name=value, each at most once.
 ";
@@ -70,7 +70,7 @@ impl fmt::Display for WrongWords<'_> {
             WrongWords::NoCommand => f.write_str("no command is named"),
             WrongWords::UnknownCommand(word) => write!(f, "{word:?} is no command"),
             WrongWords::UnbuiltCommand(word) => write!(f, "the command {word} is not built yet"),
-            WrongWords::UnbuiltOption(options) => write!(f, "{options} are not built yet"),
+            WrongWords::UnbuiltOption(options) => write!(f, "not built yet: {options}"),
             WrongWords::UnknownOption(word) => write!(f, "{word:?} is no option of the command"),
             WrongWords::NoOption(word) => write!(f, "{word:?} is no option, and no value of one"),
             WrongWords::WrittenTwice(option) => write!(f, "--{option} is written twice"),

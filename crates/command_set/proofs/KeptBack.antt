@@ -19,16 +19,20 @@ use Rattle.command_words.specs.Effect.{Effect, replied, wrote, wrong_type, no_su
 use Rattle.command_words.specs.Effects.{effect, string_effect, hash_effect, key_effect}
 use Rattle.command_words.specs.Hashes.{Pairs, field_get, field_set, on_fields}
 use Rattle.command_words.specs.Hashes.{put_fields, hset_row, hincrby_row, field_sum}
-use Rattle.command_words.specs.Hashes.{set_all}
+use Rattle.command_words.specs.Hashes.{hincrby_effect, set_all}
 use Rattle.command_words.specs.Keys.{expire_effect, expiry_after, expiry_at, persist_effect}
 use Rattle.command_words.specs.Queries.{written, names}
 use Rattle.command_words.specs.Space.{Content, Text, Fields, Held, Space, content_at, deadline_at}
 use Rattle.command_words.specs.Space.{with_deadline}
 use Rattle.command_words.specs.Strings.{on_text, append_row, or_empty, put_text}
+use Rattle.hash_cmds.specs.declared.numbers.FieldChange.{FieldChange}
+use Rattle.hash_cmds.specs.declared.numbers.FieldChange.TheVariants as change
+use Rattle.hash_cmds.specs.Counted.{IsChange}
 use Rattle.command_set.specs.Aside.{writes_over}
 use Rattle.command_set.specs.Kept.{kept, new_kept, hash_kept, named_kept, text_kept, expiry_kept}
 use Rattle.command_set.specs.Kept.{life_kept}
-use Rattle.command_set.specs.Priors.{Kept, Whole, Life, Size, Field, again, field_back}
+use Rattle.command_set.specs.Moving.{field_changed}
+use Rattle.command_set.specs.Priors.{Kept, Priors, Whole, Life, Size, Field, again, field_back}
 use Rattle.command_set.specs.Priors.{put_back, what_held}
 use Rattle.command_set.proofs.FieldsBack.{named_back, fields_back, back_same}
 use Rattle.command_set.proofs.Moves.{at_insert, row_moves}
@@ -172,31 +176,35 @@ hset_back key ps s (Some (Fields (f ∷ fs))) at others =
     ∙ named_put key (map (λ p. p.0) ps) (f ∷ fs) s at some.0 some.1
     (ap (named_back (map (λ p. p.0) ps) (f ∷ fs)) (sym some.2) ∙ fields_back ps (f ∷ fs))
 
-hincr_back : (key field : List ℕ) (s : Space) (content : Option Content)
-    (sums : Pairs → Result ℤ Value)
-    → content_at key s ≡ content
-    → ((q : List ℕ) → bytes_eq q key ≡ false
-    → get ((on_fields (replied wrong_type s) (λ fs. hincrby_row key field (sums fs) fs s)
-    content).space) q ≡ get s q)
-    → put_back (hash_kept key (field ∷ []) content s)
-    ((on_fields (replied wrong_type s) (λ fs. hincrby_row key field (sums fs) fs s) content).space)
-    ≡ s
-hincr_back key field s None sums at others = whole_back key s _ others
-hincr_back key field s (Some (Text value)) sums at others = refl
-hincr_back key field s (Some (Fields [])) sums at others = whole_back key s _ others
-hincr_back key field s (Some (Fields (f ∷ fs))) sums at others = by (sums (f ∷ fs))
+-- a field to which a number was added, or a hash that is new
+pub field_changed_back : (key field : List ℕ) (n : ℤ) (change : FieldChange) (s t : Space)
+    (kept : Priors) → IsChange key field change s t → t ≡ (hincrby_effect key field n s).space
+    → ((q : List ℕ) → bytes_eq q key ≡ false → get t q ≡ get s q)
+    → kept ≡ field_changed key field change → put_back kept t ≡ s
+field_changed_back key field n change.Nothing s t kept is now others so =
+    ap (λ ps. put_back ps t) so ∙ is
+field_changed_back key field n change.Hash s t kept is now others so =
+    ap (λ ps. put_back ps t) so
+    ∙ (ap (λ h. put_back ((key, Whole h) ∷ []) t) (sym is) ∙ whole_back key s t others)
+field_changed_back key field n (change.Field had) s t kept is now others so =
+    ap (λ ps. put_back ps t) so
+    ∙ (ap (λ h. put_back ((key, Field field h) ∷ []) t) is.2
+    ∙ (ap (put_back (named_kept key (field ∷ []) is.0))
+    (now ∙ ap (λ c. (on_fields (replied wrong_type s)
+    (λ fs. hincrby_row key field (field_sum field n fs) fs s) c).space) is.1)
+    ∙ by (field_sum field n is.0)))
   where
     by : (sum : Result ℤ Value)
-        → put_back (named_kept key (field ∷ []) (f ∷ fs))
-        ((hincrby_row key field sum (f ∷ fs) s).space) ≡ s
-    by (Err e) = named_same key (field ∷ []) (f ∷ fs) s at
-    by (Ok n) =
-        let v = signed_decimal n in
-        let some = set_some field v (f ∷ fs) in
-        ap (λ gs. put_back (named_kept key (field ∷ []) (f ∷ fs)) (put_fields key gs s)) some.2
-        ∙ named_put key (field ∷ []) (f ∷ fs) s at some.0 some.1
-        (ap (named_back (field ∷ []) (f ∷ fs)) (sym some.2)
-        ∙ fields_back ((field, v) ∷ []) (f ∷ fs))
+        → put_back (named_kept key (field ∷ []) is.0)
+        ((hincrby_row key field sum is.0 s).space) ≡ s
+    by (Err e) = named_same key (field ∷ []) is.0 s is.1
+    by (Ok m) =
+        let v = signed_decimal m in
+        let some = set_some field v is.0 in
+        ap (λ gs. put_back (named_kept key (field ∷ []) is.0) (put_fields key gs s)) some.2
+        ∙ named_put key (field ∷ []) is.0 s is.1 some.0 some.1
+        (ap (named_back (field ∷ []) is.0) (sym some.2)
+        ∙ fields_back ((field, v) ∷ []) is.0)
 
 -- ---- a string
 
@@ -333,9 +341,6 @@ kept_back (command.Rename a b) keys s m is beside =
 kept_back (command.HSet key words) keys s m is beside =
     hset_back key (in_turn words) s (content_at key s) refl
     (λ q e. (row_moves (command.HSet key words) s m).stays q (apart (bytes_eq q key) e))
-kept_back (command.HIncrBy key field n) keys s m is beside =
-    hincr_back key field s (content_at key s) (λ fs. field_sum field n fs) refl
-    (λ q e. (row_moves (command.HIncrBy key field n) s m).stays q (apart (bytes_eq q key) e))
 kept_back (command.Append key value) keys s m is beside =
     append_back key value s (content_at key s) refl
     (λ q e. (row_moves (command.Append key value) s m).stays q (apart (bytes_eq q key) e))

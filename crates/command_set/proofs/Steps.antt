@@ -20,6 +20,7 @@ use Rattle.command_words.specs.Queries.{written}
 use Rattle.command_words.specs.Space.{Space, deadline_at}
 use Rattle.command_rows.specs.Rows.{IsRow}
 use Rattle.expiry.specs.declared.index.Deadline.{Deadline}
+use Rattle.expiry.specs.Blocks.{is_nil}
 use Rattle.expiry.specs.Index.{has, is_same, is_at, without}
 use Rattle.expiry.specs.Order.{IsOrdered}
 use Rattle.expiry.proofs.DueKeys.{at_is, at_itself, right_true}
@@ -41,6 +42,25 @@ nothing_is_in_step = record {
 pub one_index_is_in_step : OneIndexIsInStep
 one_index_is_in_step ds es space a b =
     one_index ds es a.ordered b.ordered (λ d. a.each d ∙ sym (b.each d))
+
+-- in step with no deadlines no key has one
+none_at : (index : List Deadline) (s : Space) (key : List ℕ) → InStep index s
+    → true ≡ is_nil index → deadline_at key s ≡ None
+none_at (d ∷ ds) s key step none = absurd cc
+none_at [] s key step none = by (deadline_at key s) refl
+  where
+    by : (r : Option ℕ) → deadline_at key s ≡ r → r ≡ None
+    by None is = refl
+    by (Some at) is =
+        absurd (let no : false ≡ true =
+        step.each (record { at = at; key = key }) ∙ (ap (is_at at) is ∙ at_itself at) in cc)
+
+pub none_listed : (index : List Deadline) (s : Space) (keys : List (List ℕ)) → InStep index s
+    → true ≡ is_nil index → deadlines_of keys s ≡ []
+none_listed index s [] step none = refl
+none_listed index s (key ∷ keys) step none =
+    ap (λ r. with_one r key (deadlines_of keys s)) (none_at index s key step none)
+    ∙ none_listed index s keys step none
 
 -- what is settled has the members that are current, and those that were not looked at
 module _ (x : Deadline) (t : Space) where

@@ -2,7 +2,7 @@
 use Rattle.std.specs.Prelude.{ℕ, List, [], ◌∷◌, length, map}
 use Rattle.std.specs.Prelude.{Option, Some, None}
 use Rattle.command_words.specs.declared.command.Command.{Command}
-use Rattle.command_words.specs.declared.command.Command.TheVariants.{Set, SetNx, HSet, HIncrBy}
+use Rattle.command_words.specs.declared.command.Command.TheVariants.{Set, SetNx, HSet}
 use Rattle.command_words.specs.declared.command.Command.TheVariants.{Append, Persist, Rename}
 use Rattle.command_words.specs.declared.command.Command.TheVariants.{Expire, PExpire, ExpireAt}
 use Rattle.command_words.specs.declared.command.Command.TheVariants.{PExpireAt}
@@ -51,8 +51,6 @@ kept (SetNx key value) keys space moment = new_kept key (held_at key space) spac
 kept (Rename a b) keys space moment = []
 kept (HSet key words) keys space moment =
     hash_kept key (keys_in_turn words) (content_at key space) space
-kept (HIncrBy key field n) keys space moment =
-    hash_kept key (field ∷ []) (content_at key space) space
 kept (Append key value) keys space moment = text_kept key (content_at key space) space
 kept (Persist key) keys space moment = life_kept key space
 kept (Expire key n) keys space moment = expiry_kept key (expiry_after moment 1000 n) space

@@ -1,21 +1,18 @@
 //! What keys hold is moved aside before a command writes over it, not copied: an empty string with
 //! the deadline of the key stands in its place until then.
-ghost use Rattle.std.specs.Prelude.{◌≡◌, ◌++◌, [], ◌∷◌, OnOk, option_map};
-ghost use Rattle.command_words.specs.Space.{Text, held_at};
+ghost use Rattle.std.specs.Prelude.{◌≡◌, ◌++◌, [], ◌∷◌, OnOk};
+ghost use Rattle.command_words.specs.Space.{held_at};
 ghost use Rattle.keyspace.specs.Lending.{with_content};
-ghost use Rattle.keyspace.specs.Plain.{content_of, held_of};
+ghost use Rattle.keyspace.specs.Plain.{content_of};
 ghost use Rattle.command_set.specs.Aside.{filled, filled_one, hollow, hollowed, left_beside, moved};
 ghost use Rattle.command_set.specs.Aside.{set_aside, writes_over};
 ghost use Rattle.command_set.specs.Priors.{Moved, Whole, kept_of, priors_of};
 
 use super::prior::{Kept, Prior};
-use super::touched::deadline_of;
 use command_words::{Command, SetWhen};
 use key_cmds::{expiry_after, expiry_at};
-use keyspace::{Content, Held, Keyspace};
+use keyspace::{Content, Keyspace};
 use resp_value::{NoMemory, Octets};
-use std::alloc::Global;
-use std::mem;
 
 /// Whether the command writes over what its keys hold, or takes it out, without a look at it.
 #[tactic(auto, unfolding(crate::specs::Aside::writes_over))]
@@ -39,37 +36,8 @@ pub(crate) fn writes_over(space: &Keyspace, command: &Command, moment: u64) -> b
     }
 }
 
-/// A content is moved out; the empty string stands in its place.
-fn empty_out(alloc: Global, content: &mut Content) -> Content
-    ensures was { result ≡ content.old }
-    ensures now { content_of content.new ≡ Text [] }
-{
-    let empty = Octets::from_vec(Vec::new(alloc));
-    mem::replace(content, Content::Text(empty))
-}
-
-/// What the key holds is moved out; an empty string with its deadline stands in its place.
-fn hollow(alloc: Global, space: &mut Keyspace, key: &[u8]) -> Option<Held>
-    ensures was { option_map held_of result ≡ held_at key.now space.old }
-    ensures now { space.new ≡ hollow key.now space.old }
-{
-    let deadline = deadline_of(space, key);
-    match space.content_mut(key) {
-        Some(content) => {
-            let content = empty_out(alloc, content);
-            Some(Held { content, deadline })
-        }
-        None => None,
-    }
-}
-
 /// What the key holds is moved aside, and goes last.
-fn move_one(
-    alloc: Global,
-    space: &mut Keyspace,
-    key: &Octets,
-    aside: &mut Vec<Prior>,
-) -> Result<(), NoMemory>
+fn move_one(space: &mut Keyspace, key: &Octets, aside: &mut Vec<Prior>) -> Result<(), NoMemory>
     ensures aside { OnOk result (priors_of aside.new.items
         ≡ priors_of aside.old.items ++ (key.now, Whole (held_at key.now space.old)) ∷ []) }
     ensures space { OnOk result (space.new ≡ hollow key.now space.old) }
@@ -78,7 +46,7 @@ fn move_one(
 {
     aside.reserve(1)?;
     let name = key.copy()?;
-    let held = hollow(alloc, space, key.as_slice());
+    let held = space.hollow(key.as_slice());
     let kept = Kept::Whole(held);
     aside.push_reserved(Prior { key: name, kept });
     Ok(())
@@ -86,12 +54,7 @@ fn move_one(
 
 /// What each of the keys holds is moved aside, and goes last. Where memory runs out, some of it is
 /// aside.
-fn move_aside(
-    alloc: Global,
-    space: &mut Keyspace,
-    keys: &[Octets],
-    aside: &mut Vec<Prior>,
-) -> Result<(), NoMemory>
+fn move_aside(space: &mut Keyspace, keys: &[Octets], aside: &mut Vec<Prior>) -> Result<(), NoMemory>
     ensures aside { OnOk result (priors_of aside.new.items
         ≡ priors_of aside.old.items ++ moved keys.now space.old) }
     ensures space { OnOk result (space.new ≡ hollowed keys.now space.old) }
@@ -99,7 +62,7 @@ fn move_aside(
         ≡ filled (priors_of aside.old.items) space.old }
 {
     for key in keys {
-        move_one(alloc, space, key, aside)?;
+        move_one(space, key, aside)?;
     }
     Ok(())
 }
@@ -107,7 +70,6 @@ fn move_aside(
 /// What the second key of RENAME holds is moved aside, and goes last; then goes that it will hold
 /// what the first one does.
 fn move_target(
-    alloc: Global,
     space: &mut Keyspace,
     from: &Octets,
     to: &Octets,
@@ -121,7 +83,7 @@ fn move_target(
 {
     let key = from.copy()?;
     let kept = Kept::Moved(to.copy()?);
-    move_one(alloc, space, to, aside)?;
+    move_one(space, to, aside)?;
     aside.push(Prior { key, kept })?;
     Ok(())
 }
@@ -130,7 +92,6 @@ fn move_target(
 /// runs out, some of it is aside.
 #[tactic(auto, unfolding(crate::specs::Aside::set_aside, crate::specs::Aside::left_beside))]
 pub(crate) fn set_aside(
-    alloc: Global,
     space: &mut Keyspace,
     command: &Command,
     keys: &[Octets],
@@ -143,8 +104,8 @@ pub(crate) fn set_aside(
         ≡ filled (priors_of aside.old.items) space.old }
 {
     match command {
-        Command::Rename(from, to) => move_target(alloc, space, from, to, aside),
-        _ => move_aside(alloc, space, keys, aside),
+        Command::Rename(from, to) => move_target(space, from, to, aside),
+        _ => move_aside(space, keys, aside),
     }
 }
 

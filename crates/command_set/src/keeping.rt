@@ -42,7 +42,7 @@ fn run_over(
     ensures step { InStep index.new space.new }
 {
     let mut aside = Vec::new(alloc);
-    if set_aside(alloc, space, command, keys, &mut aside).is_err() {
+    if set_aside(space, command, keys, &mut aside).is_err() {
         fill(space, aside);
         return Err(NoMemory);
     }

@@ -108,31 +108,6 @@ fn kept_by_hset(
     }
 }
 
-fn kept_by_hincrby(
-    alloc: Global,
-    space: &Keyspace,
-    key: &Octets,
-    field: &Octets,
-) -> Result<Vec<Prior>, NoMemory>
-    ensures { IfOk result (λ v. priors_of v.items ≡ hash_kept key.now (field.now ∷ [])
-        (content_at key.now space.now) space.now) }
-{
-    let Some(held) = space.get(key.as_slice()) else {
-        return wholes(alloc, space, slice::from_ref(key));
-    };
-    match &held.content {
-        Content::Text(_) => Ok(Vec::new(alloc)),
-        Content::Fields(fields) => {
-            if fields.len() == 0 {
-                return wholes(alloc, space, slice::from_ref(key));
-            }
-            let mut out = Vec::new(alloc);
-            push_named(key, fields, field, &mut out)?;
-            Ok(out)
-        }
-    }
-}
-
 fn kept_by_append(alloc: Global, space: &Keyspace, key: &Octets) -> Result<Vec<Prior>, NoMemory>
     ensures { IfOk result (λ v. priors_of v.items
         ≡ text_kept key.now (content_at key.now space.now) space.now) }
@@ -185,7 +160,6 @@ pub(crate) fn kept_by(
         Command::Set(key, _, _, _) | Command::SetNx(key, _) => kept_by_new(alloc, space, key),
         Command::Rename(_, _) => Ok(Vec::new(alloc)),
         Command::HSet(key, words) => kept_by_hset(alloc, space, key, words.as_slice()),
-        Command::HIncrBy(key, field, _) => kept_by_hincrby(alloc, space, key, field),
         Command::Append(key, _) => kept_by_append(alloc, space, key),
         Command::Persist(key) => kept_life(alloc, space, key),
         Command::Expire(key, number) => {

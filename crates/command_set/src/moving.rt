@@ -1,32 +1,40 @@
-//! A command that takes out what its key holds: what goes is moved into what is kept of the run.
+//! A command that takes out what its key holds, or puts a number in its place: what goes is moved
+//! into what is kept of the run.
 ghost use Rattle.std.specs.Prelude.{◌≡◌, ◌<◌, [], true, IfOk, OnOk, OnErr, option_map};
 ghost use Rattle.std.specs.Prelude.{vec_len, vec_capacity};
-ghost use Rattle.command_words.specs.declared.command.Command.TheVariants.{GetDel, HDel};
+ghost use Rattle.command_words.specs.declared.command.Command.TheVariants.{GetDel, HDel, HIncrBy};
 ghost use Rattle.command_words.specs.declared.written.Written.TheVariants.{Keys};
 ghost use Rattle.command_words.specs.Effects.{effect};
 ghost use Rattle.command_words.specs.Queries.{written};
+ghost use Rattle.command_words.specs.Strings.{decrby_effect, incrby_effect};
 ghost use Rattle.command_set.specs.InStep.{InStep};
 ghost use Rattle.keyspace.specs.Plain.{held_of};
-ghost use Rattle.command_set.specs.Moving.{takes_out, went};
+ghost use Rattle.command_set.specs.Moving.{changed, field_changed, is_counter, takes_out, went};
 ghost use Rattle.command_set.specs.Priors.{priors_of, put_back};
 
 use super::prior::{Kept, Prior};
 use super::step::settle;
-use super::touched::deadlines_of;
+use super::touched::deadlines_before;
 use command_words::{Command, Done};
 use expiry::DeadlineIndex;
-use hash_cmds::take_fields;
+use hash_cmds::{FieldChange, add_field, take_fields};
 use keyspace::{Held, Keyspace};
 use resp_value::{NoMemory, Octets, Words};
 use std::alloc::Global;
-use string_cmds::take_text;
+use string_cmds::{add_number, take_number, take_text};
 
-/// Whether the command takes out what its key holds, or a part of it.
+/// Whether the command takes out what its key holds, or a part of it, or puts a number in its
+/// place.
 #[tactic(auto, unfolding(crate::specs::Moving::takes_out))]
 pub(crate) fn takes_out(command: &Command) -> bool
     ensures { result ≡ takes_out command.now }
 {
-    matches!(command, Command::GetDel(_) | Command::HDel(_, _))
+    match command {
+        Command::GetDel(_) | Command::HDel(_, _) | Command::HIncrBy(_, _, _) => true,
+        Command::Incr(_) | Command::Decr(_) => true,
+        Command::IncrBy(_, _) | Command::DecrBy(_, _) => true,
+        _ => false,
+    }
 }
 
 /// What a key held is kept, if it went. There is room for it.
@@ -106,6 +114,148 @@ fn move_fields(
     Ok((done, kept))
 }
 
+/// What a key held is kept, if it changed. There is room for it.
+fn keep_had(kept: Vec<Prior>, key: Octets, had: Option<Option<Held>>) -> Vec<Prior>
+    requires none { kept.items ≡ [] }
+    requires room { vec_len kept < vec_capacity kept }
+    ensures { priors_of result.items
+        ≡ changed key (option_map (λ held. option_map held_of held) had) }
+{
+    let mut kept = kept;
+    if let Some(held) = had {
+        kept.push_reserved(Prior {
+            key,
+            kept: Kept::Whole(held),
+        });
+    }
+    kept
+}
+
+/// INCRBY; what the key held is kept, where it changed.
+fn move_sum(
+    alloc: Global,
+    space: &mut Keyspace,
+    key: &Octets,
+    number: &i64,
+) -> Result<(Done, Vec<Prior>), NoMemory>
+    ensures reply { IfOk result (λ r. r.0.reply
+        ≡ (incrby_effect key.now number.now space.old).reply) }
+    ensures signals { IfOk result (λ r. r.0.signalled
+        ≡ (incrby_effect key.now number.now space.old).signalled) }
+    ensures space { OnOk result
+        (space.new ≡ (incrby_effect key.now number.now space.old).space) }
+    ensures back { IfOk result (λ r. put_back (priors_of r.1.items) space.new ≡ space.old) }
+    ensures err { OnErr result (space.new ≡ space.old) }
+{
+    let mut kept = Vec::new(alloc);
+    kept.reserve(1)?;
+    let name = key.copy()?;
+    let (done, had) = add_number(alloc, space, key.as_slice(), number)?;
+    Ok((done, keep_had(kept, name, had)))
+}
+
+/// DECRBY; what the key held is kept, where it changed.
+fn move_difference(
+    alloc: Global,
+    space: &mut Keyspace,
+    key: &Octets,
+    number: i64,
+) -> Result<(Done, Vec<Prior>), NoMemory>
+    ensures reply { IfOk result (λ r. r.0.reply
+        ≡ (decrby_effect key.now number space.old).reply) }
+    ensures signals { IfOk result (λ r. r.0.signalled
+        ≡ (decrby_effect key.now number space.old).signalled) }
+    ensures space { OnOk result (space.new ≡ (decrby_effect key.now number space.old).space) }
+    ensures back { IfOk result (λ r. put_back (priors_of r.1.items) space.new ≡ space.old) }
+    ensures err { OnErr result (space.new ≡ space.old) }
+{
+    let mut kept = Vec::new(alloc);
+    kept.reserve(1)?;
+    let name = key.copy()?;
+    let (done, had) = take_number(alloc, space, key.as_slice(), number)?;
+    Ok((done, keep_had(kept, name, had)))
+}
+
+/// What HINCRBY changed is kept. There is room for it.
+fn keep_change(kept: Vec<Prior>, key: Octets, field: Octets, change: FieldChange) -> Vec<Prior>
+    requires none { kept.items ≡ [] }
+    requires room { vec_len kept < vec_capacity kept }
+    ensures { priors_of result.items ≡ field_changed key field change }
+{
+    let mut kept = kept;
+    match change {
+        FieldChange::Nothing => {}
+        FieldChange::Field(had) => {
+            kept.push_reserved(Prior {
+                key,
+                kept: Kept::Field(field, had),
+            });
+        }
+        FieldChange::Hash => {
+            kept.push_reserved(Prior {
+                key,
+                kept: Kept::Whole(None),
+            });
+        }
+    }
+    kept
+}
+
+/// HINCRBY; what the field held is kept, where it changed.
+#[tactic(auto, unfolding(crate::specs::Rows::effect, crate::specs::Rows::hash_effect))]
+fn move_field(
+    alloc: Global,
+    space: &mut Keyspace,
+    key: &Octets,
+    field: &Octets,
+    number: &i64,
+    moment: u64,
+) -> Result<(Done, Vec<Prior>), NoMemory>
+    ensures reply { IfOk result (λ r. r.0.reply
+        ≡ (effect (HIncrBy key.now field.now number.now) space.old moment).reply) }
+    ensures signals { IfOk result (λ r. r.0.signalled
+        ≡ (effect (HIncrBy key.now field.now number.now) space.old moment).signalled) }
+    ensures space { OnOk result (space.new
+        ≡ (effect (HIncrBy key.now field.now number.now) space.old moment).space) }
+    ensures back { IfOk result (λ r. put_back (priors_of r.1.items) space.new ≡ space.old) }
+    ensures err { OnErr result (space.new ≡ space.old) }
+{
+    let mut kept = Vec::new(alloc);
+    kept.reserve(1)?;
+    let name = key.copy()?;
+    let of_field = field.copy()?;
+    let key_bytes = key.as_slice();
+    let field_bytes = field.as_slice();
+    let (done, change) = add_field(alloc, space, key_bytes, field_bytes, number)?;
+    Ok((done, keep_change(kept, name, of_field, change)))
+}
+
+/// INCR and its kin; what the key held is kept, where it changed.
+#[tactic(auto, unfolding(crate::specs::Rows::effect, crate::specs::Rows::string_effect))]
+fn move_number(
+    alloc: Global,
+    space: &mut Keyspace,
+    command: &Command,
+    moment: u64,
+) -> Result<(Done, Vec<Prior>), NoMemory>
+    requires { is_counter command.now ≡ true }
+    ensures reply { IfOk result (λ r. r.0.reply
+        ≡ (effect command.now space.old moment).reply) }
+    ensures signals { IfOk result (λ r. r.0.signalled
+        ≡ (effect command.now space.old moment).signalled) }
+    ensures space { OnOk result (space.new ≡ (effect command.now space.old moment).space) }
+    ensures back { IfOk result (λ r. put_back (priors_of r.1.items) space.new ≡ space.old) }
+    ensures err { OnErr result (space.new ≡ space.old) }
+{
+    match command {
+        Command::Incr(key) => move_sum(alloc, space, key, &1),
+        Command::Decr(key) => move_sum(alloc, space, key, &-1),
+        Command::IncrBy(key, number) => move_sum(alloc, space, key, number),
+        Command::DecrBy(key, number) => move_difference(alloc, space, key, *number),
+        _ => unreachable!(),
+    }
+}
+
 /// The command on the keyspace alone, with what went.
 #[tactic(auto, unfolding(crate::specs::Moving::takes_out))]
 fn move_row(
@@ -126,7 +276,10 @@ fn move_row(
     match command {
         Command::GetDel(key) => move_text(alloc, space, key, moment),
         Command::HDel(key, names) => move_fields(alloc, space, key, names, moment),
-        _ => unreachable!(),
+        Command::HIncrBy(key, field, number) => {
+            move_field(alloc, space, key, field, number, moment)
+        }
+        _ => move_number(alloc, space, command, moment),
     }
 }
 
@@ -152,7 +305,7 @@ pub(crate) fn run_moving(
     ensures err { OnErr result (space.new ≡ space.old) }
     ensures step { InStep index.new space.new }
 {
-    let before = deadlines_of(alloc, space, keys)?;
+    let before = deadlines_before(alloc, space, index, keys)?;
     let moved = move_row(alloc, space, command, moment);
     settle(space, index, before.as_slice());
     moved

@@ -10,7 +10,7 @@ ghost use Rattle.command_set.specs.Priors.{put_back, touched, what_held};
 
 use super::content::{put_field_of, put_taken_of, shorten_text};
 use super::step::{add_new, settle, settle_new};
-use super::touched::{deadline, deadline_of, deadlines_of};
+use super::touched::{deadline, deadline_of, deadlines_before};
 use expiry::{Deadline, DeadlineIndex};
 use keyspace::{Held, Keyspace, Placed};
 use resp_value::{NoMemory, Octets, Words};
@@ -139,7 +139,7 @@ fn put_back_one(
     ensures step { InStep index.new space.new }
 {
     let keys = touched(alloc, prior)?;
-    let before = deadlines_of(alloc, space, keys.as_slice())?;
+    let before = deadlines_before(alloc, space, index, keys.as_slice())?;
     let new = deadline(&prior.key, life_again(space, prior))?;
     add_new(index, &new)?;
     let put = put_one(alloc, space, prior);

@@ -7,7 +7,7 @@ ghost use Rattle.command_rows.specs.Rows.{IsRow};
 ghost use Rattle.command_set.specs.InStep.{InStep};
 
 use super::step::{add_new, settle, settle_new};
-use super::touched::{deadlines_of, new_deadline};
+use super::touched::{deadlines_before, new_deadline};
 use command_words::{Command, Done, Written, keys_written};
 use expiry::DeadlineIndex;
 use hash_cmds::{is_hash, run_hash};
@@ -80,7 +80,7 @@ pub(crate) fn run_on(
     ensures step { InStep index.new space.new }
     ensures err { OnErr result (index.new ≡ index.old) }
 {
-    let before = deadlines_of(alloc, space, keys)?;
+    let before = deadlines_before(alloc, space, index, keys)?;
     let new = new_deadline(space, command, moment)?;
     add_new(index, &new)?;
     let done = run_row(alloc, space, command, moment);

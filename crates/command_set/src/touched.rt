@@ -1,11 +1,11 @@
 //! The deadlines that a command may end, and the one that it gives.
 ghost use Rattle.std.specs.Prelude.{◌≡◌, IfOk, OnOk};
 ghost use Rattle.command_words.specs.Space.{deadline_at};
-ghost use Rattle.command_set.specs.InStep.{deadlines_of, with_last};
+ghost use Rattle.command_set.specs.InStep.{InStep, deadlines_of, with_last};
 ghost use Rattle.command_set.specs.NewDeadlines.{deadline, life_deadline, new_deadline};
 
 use command_words::{Command, SetLife};
-use expiry::Deadline;
+use expiry::{Deadline, DeadlineIndex};
 use key_cmds::{expiry_after, expiry_at};
 use keyspace::Keyspace;
 use resp_value::{NoMemory, Octets};
@@ -33,11 +33,7 @@ fn push_deadline(key: &Octets, at: Option<u64>, out: &mut Vec<Deadline>) -> Resu
 }
 
 /// The deadlines of the keys that have one.
-pub(crate) fn deadlines_of(
-    alloc: Global,
-    space: &Keyspace,
-    keys: &[Octets],
-) -> Result<Vec<Deadline>, NoMemory>
+fn deadlines_of(alloc: Global, space: &Keyspace, keys: &[Octets]) -> Result<Vec<Deadline>, NoMemory>
     ensures { IfOk result (λ v. v.items ≡ deadlines_of keys.now space.now) }
 {
     let mut out = Vec::new(alloc);
@@ -45,6 +41,23 @@ pub(crate) fn deadlines_of(
         push_deadline(key, deadline_of(space, key.as_slice()), &mut out)?;
     }
     Ok(out)
+}
+
+/// The deadlines of the keys that have one. Where the index has none no key has one either, so none
+/// is looked up.
+pub(crate) fn deadlines_before(
+    alloc: Global,
+    space: &Keyspace,
+    index: &DeadlineIndex,
+    keys: &[Octets],
+) -> Result<Vec<Deadline>, NoMemory>
+    requires { InStep index.now space.now }
+    ensures { IfOk result (λ v. v.items ≡ deadlines_of keys.now space.now) }
+{
+    if index.is_empty() {
+        return Ok(Vec::new(alloc));
+    }
+    deadlines_of(alloc, space, keys)
 }
 
 pub(crate) fn deadline(key: &Octets, at: Option<u64>) -> Result<Option<Deadline>, NoMemory>

@@ -17,6 +17,8 @@ use Rattle.seat_turns.proofs.Turning.{entries_begin}
 use Rattle.conn_worker.specs.declared.report.Report.{Report}
 use Rattle.conn_worker.specs.declared.report.Ended.{Ended}
 use Rattle.conn_worker.specs.Visits.{IsShown, Visits}
+use Rattle.conn_worker.specs.Quits.{has_quit}
+use Rattle.conn_worker.proofs.Stopping.{quit_begins}
 use Rattle.conn_pool.specs.Shown.{ShowsEnd, Shows, AreShown}
 
 module _ (l : Limits) (a b : List Entry) (t u : ℕ) (more : IsPrefix a b) (le : t ≤ u) where
@@ -24,8 +26,11 @@ module _ (l : Limits) (a b : List Entry) (t u : ℕ) (more : IsPrefix a b) (le :
   ended_begins id h =
       begins_lift (λ past. has_ended l id past ≡ true) (ended_more l id) a b more h
 
+  quits_begin : (id : ℕ) → has_quit id a ≡ true → has_quit id b ≡ true
+  quits_begin id h = quit_begins id a b more h
+
   end_more : (e : Ended) (id : ℕ) → ShowsEnd e l a t id → ShowsEnd e l b u id
-  end_more e id h = grind (arith, ended_begins)
+  end_more e id h = grind (arith, ended_begins, quits_begin)
 
   pub shows_more : (r : Report) → Shows l a t r → Shows l b u r
   shows_more r s = grind (arith, end_more, ended_begins)

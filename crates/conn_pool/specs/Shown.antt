@@ -10,11 +10,13 @@ use Rattle.shared_book.specs.Turns.{Place, limits_of}
 use Rattle.conn_worker.specs.declared.report.Report.{Report}
 use Rattle.conn_worker.specs.declared.report.Ended.{Ended}
 use Rattle.conn_worker.specs.declared.report.Ended.TheVariants as ended
+use Rattle.conn_worker.specs.Quits.{has_quit}
 
 -- the history and the number of tickets that were drawn show why the connection ended, where it was
 -- neither its link nor want of memory
 abbrev pub ShowsEnd : Ended → Limits → List Entry → ℕ → ℕ → Type 0
 ShowsEnd ended.PeerEnd l past tickets id = ⊤
+ShowsEnd ended.Quit l past tickets id = has_quit id past ≡ true
 ShowsEnd ended.Dropped l past tickets id = has_ended l id past ≡ true
 ShowsEnd (ended.BadRequest fault) l past tickets id = ⊤
 ShowsEnd ended.LinkFault l past tickets id = ⊤
@@ -24,6 +26,7 @@ ShowsEnd ended.Worn l past tickets id = LAST_TICKET ≤ tickets
 -- a connection may end so without having been admitted
 abbrev pub IsUnadmitted : Ended → Type 0
 IsUnadmitted ended.PeerEnd = ⊥
+IsUnadmitted ended.Quit = ⊥
 IsUnadmitted ended.Dropped = ⊥
 IsUnadmitted (ended.BadRequest fault) = ⊥
 IsUnadmitted ended.LinkFault = ⊥

@@ -1,6 +1,6 @@
 -- What waits for a connection is taken and written, Take after Take.
 use Rattle.std.proofs.Common.{◌≡◌, ◌≤◌, ◌<◌, ◌+◌, ℕ, List, [], ◌∷◌, ◌++◌, length, take, drop}
-use Rattle.std.proofs.Common.{append_assoc, true, false, cond, refl, sym, ap, subst, ◌∙◌, arith}
+use Rattle.std.proofs.Common.{append_assoc, true, cond, refl, sym, ap, subst, ◌∙◌, arith}
 use Rattle.std.proofs.Common.{append-nil, inr, eq-eqb}
 use Rattle.std.specs.Prelude.{Option, Some, None, ◌==◌}
 use Rattle.std.specs.List.{All}
@@ -11,15 +11,15 @@ use Rattle.resp_value.specs.Lists.{IsPrefix}
 use Rattle.serial_model.specs.declared.history.Limits.{Limits}
 use Rattle.serial_model.specs.declared.history.Entry.{Entry}
 use Rattle.serial_model.specs.declared.history.Entry.TheVariants.{Take}
-use Rattle.serial_model.specs.History.{has_ended, is_admitted, stream, taken, unsent}
-use Rattle.serial_model.proofs.Streams.{stream_take, unsent_live}
+use Rattle.serial_model.specs.History.{is_admitted, reads_on, stream, taken, unsent}
+use Rattle.serial_model.proofs.Streams.{stream_take}
 use Rattle.seat_turns.specs.Own.{past_of, IsWithin, Grows}
 use Rattle.resp_value.specs.declared.octets.Octets.{Octets}
 use Rattle.shared_book.specs.Turns.{Place, Turn, Gives, Rests, Refuses, Takes, limits_in, limits_of}
 use Rattle.shared_book.specs.Turns.{most}
 use Rattle.shared_book.specs.declared.turns.Refusal.{Refusal}
 use Rattle.seat_turns.proofs.Growing.{grows_none, grows_then, grows_past, order_append}
-use Rattle.shared_book.proofs.Histories.{begins_lift, admitted_more, stream_begins}
+use Rattle.shared_book.proofs.Histories.{begins_lift, admitted_more, stream_begins, unsent_kept}
 use Rattle.conn_worker.specs.declared.report.Ended.TheVariants as ended
 use Rattle.conn_worker.specs.declared.report.Ended.{Ended}
 use Rattle.conn_worker.specs.Visits.{IsWork, IsEnd, ended_by, runs_in, gave, Delivers, DeliversPart}
@@ -48,11 +48,11 @@ module _ (l : Limits) (id : ℕ) where
   nothing_left n xs h = omega (arith, ap length h, length-drop n xs)
 
   -- a Take that gave less than the most took all
-  pub short_taken : (past : List Entry) (most : ℕ) (bytes : List ℕ) → has_ended l id past ≡ false
+  pub short_taken : (past : List Entry) (most : ℕ) (bytes : List ℕ) → reads_on l past id ≡ true
       → bytes ≡ take most (unsent l id past) → length bytes < most
       → length (stream l id (Take id most ∷ past)) ≤ taken l id (Take id most ∷ past)
-  short_taken past most bytes live is short =
-      grind (arith, unsent_live, length-drop, stream_take, own_take, length-take)
+  short_taken past most bytes keeps is short =
+      grind (arith, unsent_kept, length-drop, stream_take, own_take, length-take)
 
 module _ (id : ℕ) (link0 link1 : Option (List ℕ)) (old new : Place)
     (d : Delivering id link0 link1 old new) where
@@ -104,9 +104,9 @@ module _ (id : ℕ) (link0 link1 : Option (List ℕ)) (old new : Place)
     delivers_short link2 w short =
         let l = limits_of old in
         let ends = g.ends in
-        let live = ap (λ l. has_ended l id g.past) (sym limits_same) ∙ g.live in
+        let keeps = ap (λ l. reads_on l g.past id) (sym limits_same) ∙ g.keeps in
         let given = g.given ∙ ap (λ l. take most (unsent l id g.past)) limits_same in
-        let now = short_taken l id g.past most bytes live given short in
+        let now = short_taken l id g.past most bytes keeps given short in
         let before = stream_begins l id (past_of old) (past_of last)
         (grows_past old last took took_grows) in
         grind (arith, took, took_grows, took_work, append-nil, appends_as, gave_is, appends_more)
@@ -123,11 +123,20 @@ module _ (id : ℕ) (link0 link1 : Option (List ℕ)) (old new : Place)
   delivers_rests last r =
       let l = limits_of old in
       let grows = grows_then old new last d.turns [] d.grows r.grows in
-      let live = ap (λ l. has_ended l id (past_of last)) (sym limits_same) ∙ r.live in
       let none = ap (λ l. unsent l id (past_of last)) (sym limits_same) ∙ r.none in
       let before = stream_begins l id (past_of old) (past_of last)
       (grows_past old last d.turns grows) in
-      grind (arith, nothing_left, unsent_live)
+      record {
+        turns = d.turns;
+        grows = grows;
+        work = d.work;
+        runs_none = d.runs_none;
+        wrote = d.wrote;
+        taken_all = λ keeps.
+            let all = nothing_left l id (taken l id (past_of last)) (stream l id (past_of last))
+            (sym (unsent_kept l id (past_of last) keeps) ∙ none) in
+            omega (arith, before, all);
+      }
 
   pub delivers_refused : (r : Refusal) (last : Place) → Refuses r id new last
       → DeliversPart (ended_by r) id link0 link1 old last
@@ -160,15 +169,17 @@ module _ (id : ℕ) (link0 link1 link2 : Option (List ℕ)) (old mid new : Place
       let l = limits_of old in
       let first = stream_begins l id (past_of old) (past_of mid)
       (grows_past old mid d.turns d.grows) in
-      let all : length (stream l id (past_of mid)) ≤ taken l id (past_of new)
-      = grind (arith, mid_limits) in
+      let all : reads_on l (past_of new) id ≡ true
+      → length (stream l id (past_of mid)) ≤ taken l id (past_of new)
+      = subst (λ z. reads_on z (past_of new) id ≡ true
+      → length (stream z id (past_of mid)) ≤ taken z id (past_of new)) mid_limits e.taken_all in
       record {
         turns = e.turns ++ d.turns;
         grows = grows_then old mid new d.turns e.turns d.grows e.grows;
         work = λ clock. All-append (IsWork id clock) e.turns d.turns (e.work clock) (d.work clock);
         runs_none = grind (arith, order_append, append-nil);
         wrote = grind (arith, appends_as, appends_more, order_append, mid_limits);
-        taken_all = omega (arith, first, all);
+        taken_all = λ keeps. omega (arith, first, all keeps);
       }
 
   pub delivers_part_then : (cause : Ended) → DeliversPart cause id link1 link2 mid new

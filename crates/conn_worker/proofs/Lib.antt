@@ -1,3 +1,6 @@
+mod Quitting
+pub mod Stopping
+mod Further
 mod Turning
 mod Running
 mod Ticking

@@ -1,33 +1,35 @@
 -- A connection is served round by round: how each round goes on from those before it.
 use Rattle.std.proofs.Common.{◌≡◌, ◌≤◌, ℕ, List, ◌++◌, length, take, true, Some, None, refl, sym}
 use Rattle.std.proofs.Common.{ap}
-use Rattle.std.proofs.Common.{subst, ◌∙◌, append_assoc, arith, inl, inr}
+use Rattle.std.proofs.Common.{subst, ◌∙◌, arith, inl, inr}
 use Rattle.std.specs.Prelude.{Option, Err}
 use Rattle.std.specs.List.{All}
 use Rattle.std.specs.Io.KnownBytes.{Keeps}
 use Rattle.std.proofs.lemmas.List.{length-take-le}
 use Rattle.std.proofs.lemmas.Option.{same_Some}
-use Rattle.resp_stream.specs.declared.fault.StreamFault.{StreamFault}
 use Rattle.resp_stream.specs.Parse.{parse, requests_of}
-use Rattle.resp_stream.proofs.Onward.{GoesOn, goes_further, requests_join}
+use Rattle.resp_stream.specs.Stream.{fed}
+use Rattle.resp_stream.proofs.Onward.{GoesOn}
 use Rattle.serial_model.specs.History.{is_admitted}
 use Rattle.seat_turns.specs.Own.{past_of}
 use Rattle.seat_turns.proofs.Growing.{grows_past}
 use Rattle.shared_book.specs.Turns.{Place, Takes}
 use Rattle.shared_book.proofs.Histories.{begins_lift, admitted_more}
 use Rattle.conn_worker.specs.declared.report.Ended.{Ended}
-use Rattle.conn_worker.specs.declared.report.Ended.TheVariants as ended
 use Rattle.conn_worker.specs.declared.connection.Connection.{Connection}
+use Rattle.conn_worker.specs.declared.connection.Stop.{Stop}
+use Rattle.conn_worker.specs.Quits.{ended_at, stop_in, up_to_quit}
 use Rattle.conn_worker.specs.declared.deliver.Front.{Front}
 use Rattle.conn_worker.specs.declared.serve.Heard.{Heard}
 use Rattle.conn_worker.specs.declared.serve.Heard.TheVariants as came
-use Rattle.conn_worker.specs.Visits.{IsWork, IsEnd, fault_in, fed_connection, runs_in, Standing}
-use Rattle.conn_worker.specs.Visits.{Begins, Delivers, DeliversPart, DeliveryCounts, fault_of}
+use Rattle.conn_worker.specs.Visits.{IsWork, IsEnd, fed_connection, runs_in, Standing}
+use Rattle.conn_worker.specs.Visits.{Begins, Delivers, DeliversPart, DeliveryCounts, stop_of}
 use Rattle.conn_worker.specs.Visits.{front_of, Hears, HearsPart, Idle, Piece, Nothing}
 use Rattle.conn_worker.specs.Visits.{Worn, Part, RunsAll, RunsPart, Idles}
 use Rattle.conn_worker.specs.Rounds.{most_read, RunsNew, RunsSome, TicksOrLeaves, Hearing, Waited}
 use Rattle.conn_worker.specs.Rounds.{Came, Round, Rounds, Onward, AtEnd}
-use Rattle.conn_worker.specs.Rounds.{NoTicket, Refused, Unwritten, Faulty, Serves}
+use Rattle.conn_worker.specs.Rounds.{NoTicket, Refused, Unwritten, Stopped, Serves}
+use Rattle.conn_worker.proofs.Further.{prefix_behind, read_further, stop_further, until_further}
 
 -- whole rounds, and the reader reads on behind them
 pub record Rounded (clock : Option ℕ) (id : ℕ) (c : Connection) (start now : Standing) : Type 0
@@ -35,21 +37,22 @@ pub record Rounded (clock : Option ℕ) (id : ℕ) (c : Connection) (start now :
     pub heard : List ℕ
     pub rounds : Rounds clock id start heard now
     pub reading : GoesOn parse heard c.reader
+    pub sound : stop_in heard ≡ None
     pub id_is : c.id ≡ id
 
 -- and one more whose replies wait
-pub record Halfway (clock : Option ℕ) (id : ℕ) (fault : Option StreamFault) (front : Front)
+pub record Halfway (clock : Option ℕ) (id : ℕ) (stop : Option Stop) (front : Front)
     (c : Connection) (start now : Standing) : Type 0 where
   pub before : List ℕ
   pub old : Standing
   pub rounds : Rounds clock id start before old
-  pub sound : fault_in before ≡ None
+  pub sound : stop_in before ≡ None
   pub after : List ℕ
   pub middle : Place
   pub hears : Hearing clock id before after old (record now { place = middle })
   pub begins : Begins id front middle now.place
-  pub reading : fault ≡ None → GoesOn parse after c.reader
-  pub met : (f : StreamFault) → fault ≡ Some f → fault_in after ≡ Some f
+  pub reading : stop ≡ None → GoesOn parse after c.reader
+  pub stop_is : stop ≡ stop_in after
   pub id_is : c.id ≡ id
 
 idle_ticks : (clock : Option ℕ) (h : Heard) (old new : Place) → Idles clock h old new
@@ -58,11 +61,11 @@ idle_ticks clock came.Idle old new t = inl t
 idle_ticks clock (came.Left e) old new t = inr (e, t.1, t.0)
 idle_ticks clock (came.Piece b) old new t = absurd t
 
-idle_fault : (clock : Option ℕ) (h : Heard) (old new : Place) → Idles clock h old new
-    → fault_of h ≡ None
-idle_fault clock came.Idle old new t = refl
-idle_fault clock (came.Left e) old new t = refl
-idle_fault clock (came.Piece b) old new t = absurd t
+idle_stop : (clock : Option ℕ) (h : Heard) (old new : Place) → Idles clock h old new
+    → stop_of h ≡ None
+idle_stop clock came.Idle old new t = refl
+idle_stop clock (came.Left e) old new t = refl
+idle_stop clock (came.Piece b) old new t = absurd t
 
 idle_begins : (clock : Option ℕ) (id : ℕ) (h : Heard) (old new : Place) → Idles clock h old new
     → Begins id (front_of h) new new
@@ -70,30 +73,30 @@ idle_begins clock id came.Idle old new t = refl
 idle_begins clock id (came.Left e) old new t = refl
 idle_begins clock id (came.Piece b) old new t = absurd t
 
-no_fault : (o : Option StreamFault) (f : StreamFault) → o ≡ None → o ≡ Some f → ⊥
-no_fault o f none is = let no : None ≡ Some f = sym none ∙ is in cc
+no_stop : (o : Option Stop) (e : Stop) → o ≡ None → o ≡ Some e → ⊥
+no_stop o e none is = let no : None ≡ Some e = sym none ∙ is in cc
 
 module _ (clock : Option ℕ) (id : ℕ) (c : Connection) (start now : Standing)
     (s : Rounded clock id c start now) where
   -- the requests of a piece, where all of them ran
-  piece_runs : (piece : List ℕ) (fault : Option StreamFault) (after : Connection) (last : Place)
-      → RunsAll clock fault (fed_connection c piece) after now.place last
+  piece_runs : (piece : List ℕ) (stop : Option Stop) (after : Connection) (last : Place)
+      → RunsAll clock stop (fed_connection c piece) after now.place last
       → RunsNew clock id s.heard (s.heard ++ piece) now.place last
-  piece_runs piece fault after last r = record {
+  piece_runs piece stop after last r = record {
     turns = r.turns;
     grows = r.grows;
     work = subst (λ n. All (IsWork n clock) r.turns) s.id_is r.work;
     gave_none = r.gave_none;
-    runs = s.reading.further piece ∙ ap (λ z. requests_of s.heard ++ z) (sym r.runs);
+    runs = until_further s.heard piece c.reader s.reading s.sound
+        ∙ ap (λ z. requests_of s.heard ++ z) (sym r.runs);
   }
 
-  -- and what is read behind it
-  piece_reads : (piece : List ℕ) (fault : Option StreamFault) (after : Connection) (last : Place)
-      → RunsAll clock fault (fed_connection c piece) after now.place last → fault ≡ None
-      → GoesOn parse (s.heard ++ piece) after.reader
-  piece_reads piece fault after last r none =
-      subst (λ z. GoesOn parse (s.heard ++ piece) z) (sym (r.reader none))
-      (goes_further parse s.heard piece c.reader requests_join s.reading (sym r.fault_is ∙ none))
+  -- why nothing is read behind it, if so
+  piece_stop : (piece : List ℕ) (stop : Option Stop) (after : Connection) (last : Place)
+      → RunsAll clock stop (fed_connection c piece) after now.place last
+      → stop ≡ stop_in (s.heard ++ piece)
+  piece_stop piece stop after last r =
+      r.stop_is ∙ sym (stop_further s.heard piece c.reader s.reading s.sound)
 
   piece_some : (piece : List ℕ) (cause : Ended) (after : Connection) (last : Place)
       → RunsPart clock cause (fed_connection c piece) after now.place last
@@ -103,11 +106,10 @@ module _ (clock : Option ℕ) (id : ℕ) (c : Connection) (start now : Standing)
     grows = r.grows;
     work = subst (λ n. All (IsWork n clock) r.turns) s.id_is r.work;
     gave_none = r.gave_none;
-    runs = (
-      r.runs.0,
-      append_assoc (requests_of s.heard) (runs_in r.turns) r.runs.0
-          ∙ ap (λ z. requests_of s.heard ++ z) r.runs.1 ∙ sym (s.reading.further piece),
-    );
+    runs = prefix_behind (requests_of s.heard) (runs_in r.turns)
+        (up_to_quit (parse (fed c.reader piece)).items) (requests_of s.heard ++ runs_in r.turns)
+        (up_to_quit (requests_of (s.heard ++ piece))) refl
+        (until_further s.heard piece c.reader s.reading s.sound) r.runs;
     cause_is = subst (λ n. IsEnd cause n last) s.id_is r.cause_is;
   }
 
@@ -115,45 +117,46 @@ module _ (clock : Option ℕ) (id : ℕ) (c : Connection) (start now : Standing)
   pub hears_halfway : (most : ℕ) (h : Heard) (after : Connection) (next : Standing)
       → is_admitted (past_of now.place) id ≡ true → most ≤ most_read
       → Hears clock most h c after now next → Keeps now.contents next.contents
-      → Halfway clock id (fault_of h) (front_of h) after start next
+      → Halfway clock id (stop_of h) (front_of h) after start next
   hears_halfway most h after next admitted le (Idle idles same took counted) kept =
-      let none = idle_fault clock h now.place next.place idles in
+      let none = idle_stop clock h now.place next.place idles in
       record {
         before = s.heard;
         old = now;
         rounds = s.rounds;
-        sound = s.reading.none;
+        sound = s.sound;
         after = s.heard;
         middle = next.place;
         hears = Waited refl took kept counted (idle_ticks clock h now.place next.place idles);
         begins = idle_begins clock id h now.place next.place idles;
         reading = λ e. subst (λ (k : Connection). GoesOn parse s.heard k.reader) (sym same)
             s.reading;
-        met = λ f is. absurd (no_fault (fault_of h) f none is);
+        stop_is = none ∙ sym s.sound;
         id_is = ap (λ (k : Connection). k.id) same ∙ s.id_is;
       }
   hears_halfway most h after next admitted le (Piece behind is piece short took counts r) kept =
-      let whole = piece_runs piece behind.fault after r.middle r.runs in
+      let whole = piece_runs piece behind.stop after r.middle r.runs in
       let t : Takes id behind.front r.middle next.place
       = subst (λ n. Takes n behind.front r.middle next.place) s.id_is r.takes in
       let there = begins_lift (λ past. is_admitted past id ≡ true) (admitted_more id)
       (past_of now.place) (past_of r.middle)
       (grows_past now.place r.middle r.runs.turns r.runs.grows) admitted in
-      let half : Halfway clock id behind.fault (front_of (came.Piece behind)) after start next
+      let half : Halfway clock id behind.stop (front_of (came.Piece behind)) after start next
       = record {
         before = s.heard;
         old = now;
         rounds = s.rounds;
-        sound = s.reading.none;
+        sound = s.sound;
         after = s.heard ++ piece;
         middle = r.middle;
         hears = Came piece refl (omega (arith, short, le)) took kept counts whole;
         begins = (r.runs.grows.within, there, t);
-        reading = piece_reads piece behind.fault after r.middle r.runs;
-        met = λ f e. s.reading.faults piece ∙ (sym r.runs.fault_is ∙ e);
+        reading = read_further s.heard piece c after behind.stop s.reading r.runs.stop_is
+            r.runs.reader;
+        stop_is = piece_stop piece behind.stop after r.middle r.runs;
         id_is = r.runs.id ∙ s.id_is;
       } in
-      subst (λ z. Halfway clock id (fault_of z) (front_of z) after start next) (sym is) half
+      subst (λ z. Halfway clock id (stop_of z) (front_of z) after start next) (sym is) half
 
   -- the service ended at the read, or as what came ran
   pub hears_last : (most : ℕ) (cause : Ended) (after : Connection) (next : Standing)
@@ -164,19 +167,19 @@ module _ (clock : Option ℕ) (id : ℕ) (c : Connection) (start now : Standing)
     before = s.heard;
     middle = now;
     rounds = s.rounds;
-    sound = s.reading.none;
+    sound = s.sound;
     after = s.heard;
     last = AtEnd ends refl still took kept;
-    told = λ f is. absurd (no_fault (fault_in s.heard) f s.reading.none is);
+    told = λ e is. absurd (no_stop (stop_in s.heard) e s.sound is);
   }
   hears_last most cause after next le (Worn is r same took counted) kept = record {
     before = s.heard;
     middle = now;
     rounds = s.rounds;
-    sound = s.reading.none;
+    sound = s.sound;
     after = s.heard;
     last = NoTicket is counted refl r took kept;
-    told = λ f e. absurd (no_fault (fault_in s.heard) f s.reading.none e);
+    told = λ e same. absurd (no_stop (stop_in s.heard) e s.sound same);
   }
   hears_last most cause after next le (Part piece short took counts r) kept =
       let some = piece_some piece cause after next.place r in
@@ -184,14 +187,14 @@ module _ (clock : Option ℕ) (id : ℕ) (c : Connection) (start now : Standing)
         before = s.heard;
         middle = now;
         rounds = s.rounds;
-        sound = s.reading.none;
+        sound = s.sound;
         after = s.heard ++ piece;
         last = Refused piece refl (omega (arith, short, le)) took kept counts some;
         told = λ f e. inr (inr some.cause_is);
       }
 
-module _ (clock : Option ℕ) (id : ℕ) (fault : Option StreamFault) (front : Front)
-    (c : Connection) (start now : Standing) (h : Halfway clock id fault front c start now) where
+module _ (clock : Option ℕ) (id : ℕ) (stop : Option Stop) (front : Front) (c : Connection)
+    (start now : Standing) (h : Halfway clock id stop front c start now) where
   pub begins_here : (f : Front) → f ≡ front → Begins c.id f h.middle now.place
   begins_here f is =
       subst (λ n. Begins n f h.middle now.place) (sym h.id_is)
@@ -211,27 +214,28 @@ module _ (clock : Option ℕ) (id : ℕ) (fault : Option StreamFault) (front : F
       };
     }
 
-    pub delivered_rounds : fault ≡ None
+    pub delivered_rounds : stop ≡ None
         → Delivers c.id now.contents next.contents h.middle next.place
         → next.counts ≡ now.counts → Rounded clock id c start next
     delivered_rounds none d counts = record {
       heard = h.after;
       rounds = Onward h.before h.after h.old next h.rounds (half_round d counts);
       reading = h.reading none;
+      sound = sym h.stop_is ∙ none;
       id_is = h.id_is;
     }
 
-    pub delivered_last : (f : StreamFault) → fault ≡ Some f
+    pub delivered_last : (e : Stop) → stop ≡ Some e
         → Delivers c.id now.contents next.contents h.middle next.place
-        → next.counts ≡ now.counts → Serves clock (ended.BadRequest f) id start next
-    delivered_last f is d counts = record {
+        → next.counts ≡ now.counts → Serves clock (ended_at e) id start next
+    delivered_last e is d counts = record {
       before = h.before;
       middle = h.old;
       rounds = h.rounds;
       sound = h.sound;
       after = h.after;
-      last = Faulty f refl (h.met f is) (half_round d counts);
-      told = λ g e. inl (ap (λ z. ended.BadRequest z) (same_Some f g (sym (h.met f is) ∙ e)));
+      last = Stopped e refl (sym h.stop_is ∙ is) (half_round d counts);
+      told = λ g same. inl (ap ended_at (same_Some e g (sym is ∙ (h.stop_is ∙ same))));
     }
 
     pub undelivered_last : (cause : Ended)

@@ -1,24 +1,25 @@
 -- The requests that a connection has read are read as calls, and run.
 use Rattle.std.proofs.Common.{◌≡◌, ◌<◌, ℕ, List, [], ◌∷◌, ◌++◌, length, max, Some, refl, sym}
 use Rattle.std.proofs.Common.{ap, subst, ◌∙◌, arith, append_assoc, take, append-nil, drop, Ok}
+use Rattle.std.proofs.Common.{None, true, false}
 use Rattle.std.specs.Prelude.{Option, IfSome}
 use Rattle.std.specs.List.{All}
 use Rattle.std.proofs.lemmas.List.{take-append-drop, length-take-le}
 use Rattle.std.proofs.lemmas.List.Elements.{All-nil, All-cons, All-append}
 use Rattle.resp_stream.specs.declared.fault.StreamFault.{StreamFault}
-use Rattle.resp_stream.specs.declared.fault.StreamFault.TheVariants as stream
-use Rattle.resp_stream.specs.Parsed.{Whole}
-use Rattle.resp_stream.specs.Parse.{parse}
+use Rattle.resp_stream.specs.declared.fault.StreamFault.TheVariants as fault
+use Rattle.resp_stream.specs.Parsed.{More, Whole}
+use Rattle.resp_stream.specs.Parse.{Batch, parse}
 use Rattle.resp_value.specs.declared.octets.Words.{Words}
 use Rattle.resp_stream.specs.Readers.{skipped, IsFaultOf, FaultGives, RequestGives}
 use Rattle.resp_stream.specs.Request.{request_at, skip_empty}
 use Rattle.resp_stream.specs.Stream.{Stream, moved_on, fault_place}
 use Rattle.resp_stream.specs.declared.fault.FaultPlace.{FaultPlace}
-use Rattle.resp_stream.proofs.Parse.{parse_whole, parse_bad, shorter}
+use Rattle.resp_stream.proofs.Parse.{parse_whole, parse_bad, parse_more, shorter}
 use Rattle.serial_model.specs.declared.history.Entry.TheVariants as entry
 use Rattle.serial_model.specs.declared.history.BookCall.{BookCall}
 use Rattle.serial_model.specs.declared.history.BookCall.TheVariants.{Admit, Run, Tick, Take, Close}
-use Rattle.serial_model.specs.History.{latest}
+use Rattle.serial_model.specs.History.{is_quit, latest}
 use Rattle.seat_turns.specs.Own.{IsWithin, Grows}
 use Rattle.shared_book.specs.Turns.{Place, Turn, IsCause, limits_of}
 use Rattle.shared_book.specs.Batches.{IsRunAt, requests_in, RunsEach, RunsAndTakes, RunsFirst}
@@ -27,14 +28,20 @@ use Rattle.shared_book.specs.declared.turns.Refusal.{Refusal}
 use Rattle.seat_turns.proofs.Growing.{grows_none, grows_then, order_append}
 use Rattle.conn_worker.specs.declared.report.Ended.TheVariants.{NoMemory}
 use Rattle.conn_worker.specs.declared.connection.Connection.{Connection}
+use Rattle.conn_worker.specs.declared.connection.Stop.{Stop}
+use Rattle.conn_worker.specs.declared.connection.Stop.TheVariants as stop
+use Rattle.conn_worker.specs.Quits.{stop_behind, up_to_quit}
 use Rattle.conn_worker.specs.Visits.{IsWork, IsEnd, runs_in, gave, ended_by, ReadsAll, RunsPart}
-use Rattle.conn_worker.specs.Visits.{HearsAll, run_in}
+use Rattle.conn_worker.specs.Visits.{HearsAll, run_in, stop_of_reader}
+use Rattle.conn_worker.proofs.Stopping.{NoQuits, Requests, no_quits_more, stop_joined, stop_quit}
+use Rattle.conn_worker.proofs.Stopping.{until_joined, until_quit}
 
 -- what was read so far, and what is left of it
 pub record Reading (before now : Connection) (calls : List BookCall) : Type 0 where
   pub id : now.id ≡ before.id
   pub requests : now.requests ≡ before.requests
   pub items : (parse before.reader).items ≡ requests_in calls ++ (parse now.reader).items
+  pub no_quits : NoQuits (requests_in calls)
   pub stream : (parse now.reader).stream ≡ (parse before.reader).stream
   pub fault : (parse now.reader).fault ≡ (parse before.reader).fault
 
@@ -47,29 +54,99 @@ requests_append (Tick m ∷ calls) id now words = requests_append calls id now w
 requests_append (Take n m ∷ calls) id now words = requests_append calls id now words
 requests_append (Close n ∷ calls) id now words = requests_append calls id now words
 
+abbrev Read : Type 0
+Read = Batch (List (List ℕ))
+
+-- why nothing is read behind these, and what was read behind them
+abbrev stop_at : Requests → Read → Option Stop
+stop_at ws b = stop_behind (ws ++ b.items) b.fault
+
+abbrev with_first : List (List ℕ) → Read → Read
+with_first words b = record { items = words ∷ b.items; stream = b.stream; fault = b.fault }
+
 module _ (before now : Connection) (calls : List BookCall) (r : Reading before now calls) where
+  -- what all of it runs, and why nothing is read behind it, by what is left of it
+  until_left : (b : Read) → parse now.reader ≡ b
+      → up_to_quit (parse before.reader).items ≡ requests_in calls ++ up_to_quit b.items
+  until_left b is =
+      ap up_to_quit (r.items ∙ ap (λ (z : Read). requests_in calls ++ z.items) is)
+      ∙ until_joined (requests_in calls) b.items r.no_quits
+
+  stop_left : (b : Read) → parse now.reader ≡ b
+      → stop_of_reader before ≡ stop_behind b.items b.fault
+  stop_left b is =
+      ap (λ z. stop_behind z (parse before.reader).fault) r.items
+      ∙ ap (λ z. stop_behind (requests_in calls ++ (parse now.reader).items) z) (sym r.fault)
+      ∙ ap (stop_at (requests_in calls)) is
+      ∙ stop_joined (requests_in calls) b.items b.fault r.no_quits
+
   -- one more was read
-  pub reading_more : (words : List (List ℕ)) (s : Stream) (moment : ℕ)
-      → request_at (skip_empty now.reader.rest) ≡ Whole words s.rest
-      → s ≡ moved_on now.reader s.rest → (more : List BookCall)
-      → more ≡ calls ++ Run now.id words moment ∷ []
-      → Reading before (record now { reader = s }) more
-  reading_more words s moment is moved more same =
-      grind (arith, parse_whole, append_assoc, requests_append)
+  module _ (words : List (List ℕ)) (s : Stream) (moment : ℕ)
+      (is : request_at (skip_empty now.reader.rest) ≡ Whole words s.rest)
+      (moved : s ≡ moved_on now.reader s.rest) (more : List BookCall)
+      (same : more ≡ calls ++ Run now.id words moment ∷ []) where
+    requests_more : requests_in more ≡ requests_in calls ++ words ∷ []
+    requests_more = ap requests_in same ∙ requests_append calls now.id moment words
+
+    whole : parse now.reader ≡ with_first words (parse s)
+    whole = parse_whole now.reader words s.rest is
+        ∙ ap (λ (z : Stream). with_first words (parse z)) (sym moved)
+
+    pub reading_more : is_quit words ≡ false → Reading before (record now { reader = s }) more
+    reading_more on = record {
+      id = r.id;
+      requests = r.requests;
+      items = r.items
+          ∙ ap (λ (z : Read). requests_in calls ++ z.items) whole
+          ∙ sym (append_assoc (requests_in calls) (words ∷ []) (parse s).items)
+          ∙ ap (λ z. z ++ (parse s).items) (sym requests_more);
+      no_quits = subst NoQuits (sym requests_more)
+          (no_quits_more (requests_in calls) words r.no_quits on);
+      stream = ap (λ (z : Read). z.stream) (sym whole) ∙ r.stream;
+      fault = ap (λ (z : Read). z.fault) (sym whole) ∙ r.fault;
+    }
+
+    -- and it is a QUIT
+    pub reading_quit : is_quit words ≡ true
+        → ReadsAll (Some stop.Quit) before (record now { reader = s }) more
+    reading_quit on = record {
+      items = requests_more
+          ∙ ap (λ z. requests_in calls ++ z) (sym (until_quit words (parse s).items on))
+          ∙ sym (until_left _ whole);
+      stop_is = sym (stop_left _ whole ∙ stop_quit words (parse s).items (parse s).fault on);
+      reader = λ none. absurd (let no : ⊥ = cc in no);
+    }
+
+  -- nothing more is whole
+  pub reading_over : (s : Stream) → request_at (skip_empty now.reader.rest) ≡ More
+      → s ≡ skipped now.reader → ReadsAll None before (record now { reader = s }) calls
+  reading_over s is past =
+      let b = parse_more now.reader is in
+      record {
+        items = sym (until_left _ b ∙ append-nil (requests_in calls));
+        stop_is = sym (stop_left _ b);
+        reader = λ none. past ∙ sym (ap (λ (z : Read). z.stream) b) ∙ r.stream;
+      }
 
   faulty : (s : Stream) (f : StreamFault) → IsFaultOf request_at (skipped now.reader) f
-      → ReadsAll (Some f) before (record now { reader = s }) calls
-  faulty s f bad = grind (arith, parse_bad, append-nil)
+      → ReadsAll (Some (stop.Fault f)) before (record now { reader = s }) calls
+  faulty s f bad =
+      let b = parse_bad now.reader bad.fault bad.left bad.is in
+      record {
+        items = sym (until_left _ b ∙ append-nil (requests_in calls));
+        stop_is = ap (λ z. Some (stop.Fault z)) bad.place ∙ sym (stop_left _ b);
+        reader = λ none. absurd (let no : ⊥ = cc in no);
+      }
 
   -- the bytes are at fault
   pub reading_bad : (s : Stream) (f : StreamFault) (place : FaultPlace)
       → FaultGives request_at (skipped now.reader) now.reader s f → Some place ≡ fault_place f
-      → ReadsAll (Some f) before (record now { reader = s }) calls
-  reading_bad s stream.NoMemory place g at = absurd (let none : ⊥ = cc in none)
-  reading_bad s (stream.BadByte o) place g at = faulty s (stream.BadByte o) g.0
-  reading_bad s (stream.TooLong o n) place g at = faulty s (stream.TooLong o n) g.0
-  reading_bad s (stream.TooDeep o) place g at = faulty s (stream.TooDeep o) g.0
-  reading_bad s (stream.NotServed o b) place g at = faulty s (stream.NotServed o b) g.0
+      → ReadsAll (Some (stop.Fault f)) before (record now { reader = s }) calls
+  reading_bad s fault.NoMemory place g at = absurd (let none : ⊥ = cc in none)
+  reading_bad s (fault.BadByte o) place g at = faulty s (fault.BadByte o) g.0
+  reading_bad s (fault.TooLong o n) place g at = faulty s (fault.TooLong o n) g.0
+  reading_bad s (fault.TooDeep o) place g at = faulty s (fault.TooDeep o) g.0
+  reading_bad s (fault.NotServed o b) place g at = faulty s (fault.NotServed o b) g.0
 
 pub runs_more : (id now : ℕ) (calls more : List BookCall) (n : ℕ) (words : List (List ℕ))
     → All (IsRunAt id now) calls → n ≡ id → more ≡ calls ++ Run n words now ∷ []
@@ -124,21 +201,21 @@ each_ran clock id now is (w ∷ ws) old new (mid, run, rest) =
 module _ (clock : Option ℕ) (now : ℕ) (before read : Connection) (calls : List BookCall)
     (count : ℕ) (old new : Place) (is : IfSome clock (λ m. now ≡ m))
     (same : (read.id ≡ before.id) × (read.requests ≡ before.requests)) where
-  pub all_ran : (fault : Option StreamFault) (front : Option Octets)
+  pub all_ran : (stop : Option Stop) (front : Option Octets)
       → RunsAndTakes read.id now read.requests (requests_in calls) count front old new
-      → ReadsAll fault before read calls
-      → HearsAll clock (record { fault = fault; front = front }) before
+      → ReadsAll stop before read calls
+      → HearsAll clock (record { stop = stop; front = front }) before
       (record read { requests = count }) old new
-  all_ran fault front told all =
+  all_ran stop front told all =
       let t : RunsAndTakes before.id now before.requests (requests_in calls) count front old new
       = grind arith in
       grind (arith, each_ran)
 
-  pub part_ran : (fault : Option StreamFault) (e : Refusal)
+  pub part_ran : (stop : Option Stop) (e : Refusal)
       → RunsFirst read.id now read.requests (requests_in calls) count e old new
-      → ReadsAll fault before read calls
+      → ReadsAll stop before read calls
       → RunsPart clock (ended_by e) before (record read { requests = count }) old new
-  part_ran fault e told all =
+  part_ran stop e told all =
       let t : RunsFirst before.id now before.requests (requests_in calls) count e old new
       = grind arith in
       let some = take t.number (requests_in calls) in

@@ -6,10 +6,9 @@ use Rattle.std.specs.Prelude.{Option, Err, ◌⊎◌}
 use Rattle.std.specs.List.{All}
 use Rattle.std.specs.Io.KnownBytes.{Appends, Consumes, Keeps}
 use Rattle.std.proofs.lemmas.List.Elements.{All-append}
-use Rattle.resp_stream.specs.declared.fault.StreamFault.{StreamFault}
 use Rattle.resp_stream.specs.Parse.{parse, requests_of}
 use Rattle.resp_stream.specs.Stream.{fed}
-use Rattle.serial_model.specs.History.{is_admitted, stream, taken}
+use Rattle.serial_model.specs.History.{is_admitted, reads_on, stream, taken}
 use Rattle.seat_turns.specs.Own.{past_of, IsWithin, Grows}
 use Rattle.shared_book.specs.Turns.{Place, Turn, limits_in, limits_of, Admits, Takes}
 use Rattle.seat_turns.proofs.Growing.{grows_none, grows_then, grows_past, grows_stands}
@@ -18,12 +17,15 @@ use Rattle.shared_book.proofs.Histories.{begins_lift, admitted_more, admitted_no
 use Rattle.edge_links.specs.declared.counts.Counts.{Counts}
 use Rattle.conn_worker.specs.declared.report.Ended.{Ended}
 use Rattle.conn_worker.specs.declared.report.Ended.TheVariants as ended
+use Rattle.conn_worker.specs.declared.connection.Stop.{Stop}
+use Rattle.conn_worker.specs.declared.connection.Stop.TheVariants.{Fault, Quit}
+use Rattle.conn_worker.specs.Quits.{ended_at, fault_in, has_quit, stop_in, up_to_quit}
 use Rattle.conn_worker.specs.declared.connection.Connection.{Connection}
-use Rattle.conn_worker.specs.Visits.{IsWork, IsEnd, IsTaken, IsWhole, IsShown, fault_in}
+use Rattle.conn_worker.specs.Visits.{IsWork, IsEnd, IsTaken, IsWhole, IsShown}
 use Rattle.conn_worker.specs.Visits.{runs_in, gave, fed_connection, RunsAll, RunsPart, Delivers}
 use Rattle.conn_worker.specs.Visits.{DeliversPart, EndCounts, Hears, HearsPart, Works, Idle, Piece}
-use Rattle.conn_worker.specs.Visits.{Nothing, Worn, Part, fault_of, front_of, Begins, HearsAll}
-use Rattle.conn_worker.specs.Visits.{DeliveryCounts, run_in, standing}
+use Rattle.conn_worker.specs.Visits.{Nothing, Worn, Part, stop_of, front_of, Begins, HearsAll}
+use Rattle.conn_worker.specs.Visits.{DeliveryCounts, LinkEnds, run_in, standing, stop_of_reader}
 use Rattle.resp_value.specs.declared.octets.Octets.{Octets}
 use Rattle.conn_worker.specs.declared.connection.Behind.{Behind}
 use Rattle.conn_worker.specs.declared.deliver.Front.{Front}
@@ -31,9 +33,12 @@ use Rattle.conn_worker.specs.declared.deliver.Front.TheVariants as front
 use Rattle.conn_worker.specs.declared.serve.Heard.{Heard}
 use Rattle.edge_links.proofs.Bytes.{appends_more, appends_as, appends_kept}
 use Rattle.edge_links.proofs.Bytes.{consumes_more, consumes_kept}
-use Rattle.resp_stream.proofs.Onward.{GoesOn, goes_further, requests_join}
+use Rattle.resp_stream.proofs.Onward.{GoesOn}
 use Rattle.conn_worker.proofs.Turning.{all_taken, no_runs}
 use Rattle.conn_worker.proofs.Ticking.{Passes, idles_pass}
+use Rattle.conn_worker.proofs.Stopping.{NoQuits, any_quit, none_stopped, quit_begins, ran_quit}
+use Rattle.conn_worker.proofs.Stopping.{stopped_quits, until_all}
+use Rattle.conn_worker.proofs.Further.{prefix_behind, read_further, stop_further, until_further}
 
 -- all that was read ran, and all that this gave was written
 pub record Serving (clock : Option ℕ) (id : ℕ) (c : Connection)
@@ -47,13 +52,15 @@ pub record Serving (clock : Option ℕ) (id : ℕ) (c : Connection)
   pub heard : List ℕ
   pub read : Consumes left0 left1 heard
   pub reading : GoesOn parse heard c.reader
+  pub sound : stop_in heard ≡ None
   pub runs : runs_in turns ≡ requests_of heard
   pub wrote : Appends link0 link1 (gave (limits_of old) turns)
-  pub was_taken : All (IsTaken (limits_of old) id (taken (limits_of old) id (past_of new))) turns
+  pub was_taken : reads_on (limits_of old) (past_of new) id ≡ true
+      → All (IsTaken (limits_of old) id (taken (limits_of old) id (past_of new))) turns
   pub admitted : is_admitted (past_of new) id ≡ true
 
--- what was read ran, up to this fault, and its replies wait
-pub record Waiting (clock : Option ℕ) (id : ℕ) (fault : Option StreamFault) (c : Connection)
+-- what was read ran, up to a QUIT, and its replies wait
+pub record Waiting (clock : Option ℕ) (id : ℕ) (stop : Option Stop) (c : Connection)
     (left0 left1 link0 link1 : Option (List ℕ)) (old new : Place) : Type 0 where
   pub turns : List Turn
   pub grows : Grows old new turns
@@ -63,17 +70,17 @@ pub record Waiting (clock : Option ℕ) (id : ℕ) (fault : Option StreamFault) 
   pub fits : c.requests ≤ length new.seen
   pub heard : List ℕ
   pub read : Consumes left0 left1 heard
-  pub reading : fault ≡ None → GoesOn parse heard c.reader
-  pub met : (f : StreamFault) → fault ≡ Some f → fault_in heard ≡ Some f
-  pub runs : runs_in turns ≡ requests_of heard
+  pub reading : stop ≡ None → GoesOn parse heard c.reader
+  pub stop_is : stop ≡ stop_in heard
+  pub runs : runs_in turns ≡ up_to_quit (requests_of heard)
   pub wrote : Appends link0 link1 (gave (limits_of old) turns)
   pub admitted : is_admitted (past_of new) id ≡ true
 
 -- the same, and what waits was not asked for yet, or its first bytes were taken
-pub record Begun (clock : Option ℕ) (id : ℕ) (fault : Option StreamFault) (front : Front)
+pub record Begun (clock : Option ℕ) (id : ℕ) (stop : Option Stop) (front : Front)
     (c : Connection) (left0 left1 link0 link1 : Option (List ℕ)) (old new : Place) : Type 0 where
   pub middle : Place
-  pub waits : Waiting clock id fault c left0 left1 link0 link1 old middle
+  pub waits : Waiting clock id stop c left0 left1 link0 link1 old middle
   pub begins : Begins id front middle new
   pub lock : new.lock ≡ old.lock
   pub within : IsWithin new
@@ -100,17 +107,28 @@ module _ (clock : Option ℕ) (id : ℕ) (c : Connection) (left0 left1 link0 lin
   admitted_then last ts g = begins_lift (λ past. is_admitted past id ≡ true) (admitted_more id)
       (past_of new) (past_of last) (grows_past new last ts g) s.admitted
 
+  -- what was read has no QUIT and no fault
+  heard_none : NoQuits (requests_of s.heard) × (fault_in s.heard ≡ None)
+  heard_none = none_stopped (requests_of s.heard) (fault_in s.heard) s.sound
+
+  -- what runs of a further piece, and why nothing is read behind it
+  until_more : (piece : List ℕ) → up_to_quit (requests_of (s.heard ++ piece))
+      ≡ requests_of s.heard ++ up_to_quit (parse (fed c.reader piece)).items
+  until_more piece =
+      until_further s.heard piece c.reader s.reading s.sound
+
+  stop_more : (piece : List ℕ) → stop_of_reader (fed_connection c piece)
+      ≡ stop_in (s.heard ++ piece)
+  stop_more piece = sym (stop_further s.heard piece c.reader s.reading s.sound)
+
   -- a piece was read, and all of it ran
-  piece_waits : (piece : List ℕ) (fault : Option StreamFault) (after : Connection) (last : Place)
+  piece_waits : (piece : List ℕ) (stop : Option Stop) (after : Connection) (last : Place)
       (left2 link2 : Option (List ℕ)) → Consumes left1 left2 piece → Keeps link1 link2
-      → RunsAll clock fault (fed_connection c piece) after new last
-      → Waiting clock id fault after left0 left2 link0 link2 old last
-  piece_waits piece fault after last left2 link2 took kept r =
-      let p = parse (fed c.reader piece) in
+      → RunsAll clock stop (fed_connection c piece) after new last
+      → Waiting clock id stop after left0 left2 link0 link2 old last
+  piece_waits piece stop after last left2 link2 took kept r =
       let long = ap length (order_append run_in r.turns s.turns) in
       let both = length-append (runs_in s.turns) (runs_in r.turns) in
-      let all : requests_of (s.heard ++ piece) ≡ requests_of s.heard ++ p.items
-      = s.reading.further piece in
       record {
         turns = r.turns ++ s.turns;
         grows = grows_then old new last s.turns r.turns s.grows r.grows;
@@ -121,18 +139,21 @@ module _ (clock : Option ℕ) (id : ℕ) (c : Connection) (left0 left1 link0 lin
         fits = r.counted;
         heard = s.heard ++ piece;
         read = consumes_more left0 left1 left2 s.heard piece s.read took;
-        reading = grind (arith, GoesOn, goes_further, requests_join);
-        met = λ f is. s.reading.faults piece ∙ (sym r.fault_is ∙ is);
-        runs = grind (arith, order_append);
+        reading = λ none. read_further s.heard piece c after stop s.reading r.stop_is r.reader
+            none;
+        stop_is = r.stop_is ∙ stop_more piece;
+        runs = order_append run_in r.turns s.turns
+            ∙ ap (λ z. z ++ runs_in r.turns) s.runs
+            ∙ ap (λ z. requests_of s.heard ++ z) r.runs ∙ sym (until_more piece);
         wrote = grind (arith, appends_as, gave_more, appends_kept);
         admitted = admitted_then last r.turns r.grows;
       }
 
   -- nothing was read, and the keys that were due left
-  idle_waits : (fault : Option StreamFault) (last : Place) (left2 link2 : Option (List ℕ))
-      → fault ≡ None → Passes clock id new last → Consumes left1 left2 [] → Keeps link1 link2
-      → Waiting clock id fault c left0 left2 link0 link2 old last
-  idle_waits fault last left2 link2 none p took kept =
+  idle_waits : (stop : Option Stop) (last : Place) (left2 link2 : Option (List ℕ))
+      → stop ≡ None → Passes clock id new last → Consumes left1 left2 [] → Keeps link1 link2
+      → Waiting clock id stop c left0 left2 link0 link2 old last
+  idle_waits stop last left2 link2 none p took kept =
       let runs : runs_in (p.turns ++ s.turns) ≡ runs_in s.turns
       = grind (arith, order_append, append-nil) in
       let long = ap length p.grows.seen.1 in
@@ -147,27 +168,26 @@ module _ (clock : Option ℕ) (id : ℕ) (c : Connection) (left0 left1 link0 lin
         heard = s.heard;
         read = grind (arith, append-nil, consumes_more);
         reading = λ h. s.reading;
-        met = λ f is. absurd (let no : None ≡ Some f = sym none ∙ is in cc);
-        runs = runs ∙ s.runs;
+        stop_is = none ∙ sym s.sound;
+        runs = runs ∙ s.runs ∙ sym (until_all (requests_of s.heard) heard_none.0);
         wrote = grind (arith, appends_as, gave_more, appends_kept);
         admitted = admitted_then last p.turns p.grows;
       }
 
   -- nothing was asked for yet
-  untaken_begins : (fault : Option StreamFault) (after : Connection) (last : Place)
+  untaken_begins : (stop : Option Stop) (after : Connection) (last : Place)
       (left2 link2 : Option (List ℕ))
-      → Waiting clock id fault after left0 left2 link0 link2 old last
-      → Begun clock id fault front.Untaken after left0 left2 link0 link2 old last
-  untaken_begins fault after last left2 link2 w = grind arith
+      → Waiting clock id stop after left0 left2 link0 link2 old last
+      → Begun clock id stop front.Untaken after left0 left2 link0 link2 old last
+  untaken_begins stop after last left2 link2 w = grind arith
 
   -- the first bytes that wait were taken
   taken_begins : (piece : List ℕ) (behind : Behind) (after : Connection) (last : Place)
       (left2 link2 : Option (List ℕ)) → Consumes left1 left2 piece → Keeps link1 link2
       → HearsAll clock behind (fed_connection c piece) after new last
-      → Begun clock id behind.fault (front.Taken behind.front) after left0 left2 link0 link2 old
-      last
+      → Begun clock id behind.stop (front.Taken behind.front) after left0 left2 link0 link2 old last
   taken_begins piece behind after last left2 link2 took kept h =
-      let w = piece_waits piece behind.fault after h.middle left2 link2 took kept h.runs in
+      let w = piece_waits piece behind.stop after h.middle left2 link2 took kept h.runs in
       let t : Takes id behind.front h.middle last
       = subst (λ n. Takes n behind.front h.middle last) s.id_is h.takes in
       let (ts, g) = takes_grows id behind.front h.middle last t in
@@ -185,11 +205,14 @@ module _ (clock : Option ℕ) (id : ℕ) (c : Connection) (left0 left1 link0 lin
       (left2 link2 : Option (List ℕ)) (k l : Counts)
       → Hears clock most h c after (standing left1 link1 k new) (standing left2 link2 l last)
       → Keeps link1 link2
-      → Begun clock id (fault_of h) (front_of h) after left0 left2 link0 link2 old last
+      → Begun clock id (stop_of h) (front_of h) after left0 left2 link0 link2 old last
   hears_begins most h after last left2 link2 k l (Idle idles same took counted) kept =
       grind (arith, untaken_begins, idle_waits, idles_pass)
   hears_begins most h after last left2 link2 k l (Piece behind is piece short took counts r) kept =
       grind (arith, taken_begins)
+
+  until_heard : runs_in s.turns ≡ up_to_quit (requests_of s.heard)
+  until_heard = s.runs ∙ sym (until_all (requests_of s.heard) heard_none.0)
 
   part_works : (piece : List ℕ) (cause : Ended) (after : Connection) (last : Place)
       (left2 link2 : Option (List ℕ)) → Consumes left1 left2 piece → Keeps link1 link2
@@ -211,7 +234,9 @@ module _ (clock : Option ℕ) (id : ℕ) (c : Connection) (left0 left1 link0 lin
         read = consumes_more left0 left1 left2 s.heard piece s.read took;
         bytes = gave (limits_of old) (r.turns ++ s.turns);
         wrote = grind (arith, appends_as, gave_more, appends_kept);
-        runs = grind (arith, append_assoc);
+        runs = prefix_behind (requests_of s.heard) (runs_in r.turns)
+            (up_to_quit (parse (fed c.reader piece)).items) (runs_in (r.turns ++ s.turns))
+            (up_to_quit (requests_of (s.heard ++ piece))) front (until_more piece) r.runs;
         front = ([], append-nil (gave (limits_of old) (r.turns ++ s.turns)));
         all_ran = λ w. absurd (grind arith);
         all_wrote = λ w. refl;
@@ -222,7 +247,7 @@ module _ (clock : Option ℕ) (id : ℕ) (c : Connection) (left0 left1 link0 lin
   -- nothing more was read, and no turn was added
   rest_works : (cause : Ended) (last : Place) (left2 link2 : Option (List ℕ)) → Grows new last []
       → IsShown cause id s.heard last
-      → (IsWhole cause
+      → (IsWhole cause → reads_on (limits_of old) (past_of last) id ≡ true
       → All (IsTaken (limits_of old) id (taken (limits_of old) id (past_of last))) s.turns)
       → Consumes left1 left2 [] → Keeps link1 link2
       → Works clock cause id c.requests left0 left2 link0 link2 old last
@@ -236,13 +261,22 @@ module _ (clock : Option ℕ) (id : ℕ) (c : Connection) (left0 left1 link0 lin
         (consumes_more left0 left1 left2 s.heard [] s.read took);
     bytes = gave (limits_of old) s.turns;
     wrote = appends_kept link0 link1 link2 _ s.wrote kept;
-    runs = ([], append-nil (runs_in s.turns) ∙ s.runs);
+    runs = ([], append-nil (runs_in s.turns) ∙ until_heard);
     front = ([], append-nil (gave (limits_of old) s.turns));
-    all_ran = λ w. s.runs;
+    all_ran = λ w. until_heard;
     all_wrote = λ w. refl;
     all_taken = all;
     shown = shown;
   }
+
+  ends_shown : (cause : Ended) (k l : Counts) → LinkEnds cause k l → IsShown cause id s.heard new
+  ends_shown ended.PeerEnd k l e = s.sound
+  ends_shown ended.Quit k l e = absurd e
+  ends_shown ended.Dropped k l e = absurd e
+  ends_shown (ended.BadRequest f) k l e = absurd e
+  ends_shown ended.LinkFault k l e = tt
+  ends_shown ended.NoMemory k l e = absurd e
+  ends_shown ended.Worn k l e = absurd e
 
   pub hears_stops : (most : ℕ) (cause : Ended) (after : Connection) (last : Place)
       (left2 link2 : Option (List ℕ)) (k l : Counts)
@@ -252,15 +286,18 @@ module _ (clock : Option ℕ) (id : ℕ) (c : Connection) (left0 left1 link0 lin
       → Works clock cause id after.requests left0 left2 link0 link2 old last
   hears_stops most cause after last left2 link2 k l (Nothing ends same still took) kept =
       subst (λ k. Works clock cause id after.requests left0 left2 link0 link2 old k) (sym still)
-      (grind (arith, rest_works, grows_none))
+      (subst (λ (x : Connection). Works clock cause id x.requests left0 left2 link0 link2 old new)
+      (sym same)
+      (rest_works cause new left2 link2 (grows_none new s.grows.within) (ends_shown cause k l ends)
+      (λ w. s.was_taken) took kept))
   hears_stops most cause after last left2 link2 k l (Worn is r same took counted) kept =
       grind (arith, rest_works)
   hears_stops most cause after last left2 link2 k l (Part piece short took counts r) kept =
       part_works piece cause after last left2 link2 took kept r
 
-module _ (clock : Option ℕ) (id : ℕ) (fault : Option StreamFault) (c : Connection)
+module _ (clock : Option ℕ) (id : ℕ) (stop : Option Stop) (c : Connection)
     (left0 left1 link0 link1 : Option (List ℕ)) (old new : Place)
-    (s : Waiting clock id fault c left0 left1 link0 link1 old new)
+    (s : Waiting clock id stop c left0 left1 link0 link1 old new)
     (left2 link2 : Option (List ℕ)) (kept : Keeps left1 left2) (last : Place) where
   limits_kept : limits_of new ≡ limits_of old
   limits_kept = ap limits_in s.grows.setup
@@ -285,21 +322,22 @@ module _ (clock : Option ℕ) (id : ℕ) (fault : Option StreamFault) (c : Conne
     unfolding all_turns
     all_wrote = grind (arith, appends_as, appends_more, order_append, limits_kept)
 
-    there : length (stream (limits_of old) id (past_of new)) ≤ taken (limits_of old) id (past_of
-        last)
-    there = grind (arith, limits_kept)
+    there : reads_on (limits_of old) (past_of last) id ≡ true
+        → length (stream (limits_of old) id (past_of new)) ≤ taken (limits_of old) id (past_of last)
+    there = subst (λ z. reads_on z (past_of last) id ≡ true
+        → length (stream z id (past_of new)) ≤ taken z id (past_of last)) limits_kept d.taken_all
 
-    all_are_taken : All (IsTaken (limits_of old) id (taken (limits_of old) id (past_of last)))
-        all_turns
+    all_are_taken : reads_on (limits_of old) (past_of last) id ≡ true
+        → All (IsTaken (limits_of old) id (taken (limits_of old) id (past_of last))) all_turns
     unfolding all_turns
-    all_are_taken =
+    all_are_taken keeps =
         let n = taken (limits_of old) id (past_of last) in
         All-append (IsTaken (limits_of old) id n) d.turns s.turns
         (no_runs (limits_of old) id n d.turns d.work d.runs_none)
-        (all_taken (limits_of old) id (past_of new) n s.turns there
+        (all_taken (limits_of old) id (past_of new) n s.turns (there keeps)
         (grows_stands old new s.turns s.grows))
 
-    pub delivered_serves : fault ≡ None → Serving clock id c left0 left2 link0 link2 old last
+    pub delivered_serves : stop ≡ None → Serving clock id c left0 left2 link0 link2 old last
     unfolding all_turns
     delivered_serves none =
         let runs = all_runs d.turns d.grows d.work d.runs_none in
@@ -316,17 +354,30 @@ module _ (clock : Option ℕ) (id : ℕ) (fault : Option StreamFault) (c : Conne
           heard = s.heard;
           read = consumes_kept left0 left1 left2 s.heard s.read kept;
           reading = s.reading none;
-          runs = runs ∙ s.runs;
+          sound = sym s.stop_is ∙ none;
+          runs = runs ∙ s.runs ∙ until_all (requests_of s.heard)
+              (none_stopped (requests_of s.heard) (fault_in s.heard) (sym s.stop_is ∙ none)).0;
           wrote = all_wrote;
           was_taken = all_are_taken;
           admitted = begins_lift (λ past. is_admitted past id ≡ true) (admitted_more id)
               (past_of new) (past_of last) (grows_past new last d.turns d.grows) s.admitted;
         }
 
-    pub delivered_ends : (f : StreamFault) → fault ≡ Some f
-        → Works clock (ended.BadRequest f) id c.requests left0 left2 link0 link2 old last
+    -- a QUIT ran, where one stopped the reader
+    quit_stands : stop_in s.heard ≡ Some Quit → has_quit id (past_of last) ≡ true
+    quit_stands is =
+        quit_begins id (past_of new) (past_of last) (grows_past new last d.turns d.grows)
+        (ran_quit clock id (past_of new) s.turns s.work (grows_stands old new s.turns s.grows)
+        (ap any_quit s.runs ∙ stopped_quits (requests_of s.heard) (fault_in s.heard) is))
+
+    stop_shown : (e : Stop) → stop_in s.heard ≡ Some e → IsShown (ended_at e) id s.heard last
+    stop_shown (Fault f) is = is
+    stop_shown Quit is = (is, quit_stands is)
+
+    pub delivered_ends : (e : Stop) → stop ≡ Some e
+        → Works clock (ended_at e) id c.requests left0 left2 link0 link2 old last
     unfolding all_turns
-    delivered_ends f is =
+    delivered_ends e is =
         let runs = all_runs d.turns d.grows d.work d.runs_none in
         record {
           turns = all_turns;
@@ -342,7 +393,7 @@ module _ (clock : Option ℕ) (id : ℕ) (fault : Option StreamFault) (c : Conne
           all_ran = λ w. runs ∙ s.runs;
           all_wrote = λ w. refl;
           all_taken = λ w. all_are_taken;
-          shown = s.met f is;
+          shown = stop_shown e (sym s.stop_is ∙ is);
         }
 
   pub delivery_stops : (cause : Ended) → DeliversPart cause id link1 link2 new last
@@ -366,6 +417,12 @@ module _ (clock : Option ℕ) (id : ℕ) (fault : Option StreamFault) (c : Conne
         all_taken = λ w. absurd (grind arith);
         shown = grind arith;
       }
+
+-- nor is one behind which nothing is read
+pub stop_counts : (e : Stop) (a b : Counts) → b.faults ≡ a.faults → b.ends ≡ a.ends
+    → EndCounts (ended_at e) a b
+stop_counts (Fault f) a b faults ends = (faults, ends)
+stop_counts Quit a b faults ends = (faults, ends)
 
 -- an end of a delivery is no end of the link
 pub part_counts : (cause : Ended) (id : ℕ) (link0 link1 : Option (List ℕ)) (old new : Place)

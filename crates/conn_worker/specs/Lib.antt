@@ -1,3 +1,4 @@
 pub mod Numbers
+pub mod Quits
 pub mod Visits
 pub mod Rounds

@@ -1,11 +1,12 @@
--- The number of each end. 2 is kept for a connection that asked to end, and 9 for a server that was
--- shut down: no command that is served does either. 6 was a full history's, and is given no more.
+-- The number of each end. 9 is kept for a server that was shut down, which no command does that is
+-- served. 6 was a full history's, and is given no more.
 use Rattle.std.specs.Prelude.{ℕ}
 use Rattle.conn_worker.specs.declared.report.Ended.{Ended}
 use Rattle.conn_worker.specs.declared.report.Ended.TheVariants as ended
 
 abbrev pub end_number : Ended → ℕ
 end_number ended.PeerEnd = 1
+end_number ended.Quit = 2
 end_number ended.Dropped = 3
 end_number (ended.BadRequest fault) = 4
 end_number ended.LinkFault = 5

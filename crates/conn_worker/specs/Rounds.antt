@@ -5,7 +5,6 @@ use Rattle.std.specs.List.{All}
 use Rattle.std.specs.Io.KnownBytes.{Consumes, Keeps}
 use Rattle.resp_value.specs.Lists.{IsPrefix}
 use Rattle.resp_stream.specs.Parse.{requests_of}
-use Rattle.resp_stream.specs.declared.fault.StreamFault.{StreamFault}
 use Rattle.edge_links.specs.Counts.{IdleCounted}
 use Rattle.shared_book.specs.declared.turns.Refusal.{Refusal}
 use Rattle.shared_book.specs.declared.turns.Refusal.TheVariants as refusal
@@ -14,21 +13,24 @@ use Rattle.shared_book.specs.Turns.{Place, Turn, limits_of, Admits, Closes, Refu
 use Rattle.conn_worker.specs.declared.report.Report.{Report}
 use Rattle.conn_worker.specs.declared.report.Ended.{Ended}
 use Rattle.conn_worker.specs.declared.report.Ended.TheVariants as ended
-use Rattle.conn_worker.specs.Visits.{IsEnd, IsWork, runs_in, gave, fault_in, Standing, LinkEnds}
+use Rattle.conn_worker.specs.declared.connection.Stop.{Stop}
+use Rattle.conn_worker.specs.Quits.{ended_at, stop_in, up_to_quit}
+use Rattle.conn_worker.specs.Visits.{IsEnd, IsWork, runs_in, gave, Standing, LinkEnds}
 use Rattle.conn_worker.specs.Visits.{TicksAt, IsLeft, Delivers, DeliversPart, DeliveryCounts}
 
 -- the most bytes of one read
 abbrev pub most_read : ℕ
 most_read = 16384
 
--- the requests ran that are whole once `after` was read, and were not when `before` was
+-- the requests ran that are whole once `after` was read, and were not when `before` was; none
+-- behind a QUIT
 pub record RunsNew (clock : Option ℕ) (id : ℕ) (before after : List ℕ) (old new : Place) : Type 0
   where
     pub turns : List Turn
     pub grows : Grows old new turns
     pub work : All (IsWork id clock) turns
     pub gave_none : gave (limits_of old) turns ≡ []
-    pub runs : requests_of after ≡ requests_of before ++ runs_in turns
+    pub runs : up_to_quit (requests_of after) ≡ requests_of before ++ runs_in turns
 
 -- the first of them did
 pub record RunsSome (clock : Option ℕ) (cause : Ended) (id : ℕ) (before after : List ℕ)
@@ -37,7 +39,7 @@ pub record RunsSome (clock : Option ℕ) (cause : Ended) (id : ℕ) (before afte
   pub grows : Grows old new turns
   pub work : All (IsWork id clock) turns
   pub gave_none : gave (limits_of old) turns ≡ []
-  pub runs : IsPrefix (requests_of before ++ runs_in turns) (requests_of after)
+  pub runs : IsPrefix (requests_of before ++ runs_in turns) (up_to_quit (requests_of after))
   pub cause_is : IsEnd cause id new
 
 -- a Tick, or one that is left to the next read that brings nothing
@@ -96,21 +98,22 @@ pub data LastRound (clock : Option ℕ) (cause : Ended) (id : ℕ) (before after
       → DeliversPart cause id middle.contents new.contents middle.place new.place
       → DeliveryCounts (Err cause) middle.counts new.counts → Keeps middle.left new.left
       → LastRound clock cause id before after old new
-  -- the bytes have a fault, which is told once all that waits was written
-  Faulty : (fault : StreamFault) → cause ≡ ended.BadRequest fault → fault_in after ≡ Some fault
+  -- a QUIT ran, or the bytes have a fault, which is told once all that waits was written
+  Stopped : (stop : Stop) → cause ≡ ended_at stop → stop_in after ≡ Some stop
       → Round clock id before after old new → LastRound clock cause id before after old new
 
--- The service of an admitted connection. What was read before the last round has no fault, and
--- where all has one, that fault is the cause, unless a turn was refused before or a write failed.
+-- The service of an admitted connection. What was read before the last round has no QUIT and no
+-- fault, and where all has one, that is the cause, unless a turn was refused before or a write
+-- failed.
 pub record Serves (clock : Option ℕ) (cause : Ended) (id : ℕ) (old new : Standing) : Type 0 where
   pub before : List ℕ
   pub middle : Standing
   pub rounds : Rounds clock id old before middle
-  pub sound : fault_in before ≡ None
+  pub sound : stop_in before ≡ None
   pub after : List ℕ
   pub last : LastRound clock cause id before after middle new
-  pub told : (fault : StreamFault) → fault_in after ≡ Some fault
-      → (cause ≡ ended.BadRequest fault) ⊎ (cause ≡ ended.LinkFault) ⊎ IsEnd cause id new.place
+  pub told : (stop : Stop) → stop_in after ≡ Some stop
+      → (cause ≡ ended_at stop) ⊎ (cause ≡ ended.LinkFault) ⊎ IsEnd cause id new.place
 
 -- a connection that was admitted, between its Admit and its Close
 pub record ServedInRounds (clock : Option ℕ) (r : Report) (old new : Standing) : Type 0 where

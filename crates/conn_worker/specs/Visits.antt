@@ -5,14 +5,13 @@ use Rattle.std.specs.List.{All}
 use Rattle.std.specs.Io.KnownBytes.{Appends, Consumes}
 use Rattle.resp_value.specs.Lists.{IsPrefix}
 use Rattle.resp_stream.specs.Parse.{parse, requests_of}
-use Rattle.resp_stream.specs.Stream.{begun, fed}
-use Rattle.resp_stream.specs.declared.fault.StreamFault.{StreamFault}
+use Rattle.resp_stream.specs.Stream.{fed}
 use Rattle.edge_links.specs.declared.counts.Counts.{Counts}
 use Rattle.edge_links.specs.Counts.{Counted, EndCounted, FaultCounted, IdleCounted}
 use Rattle.serial_model.specs.declared.history.Limits.{Limits}
 use Rattle.serial_model.specs.declared.history.Entry.{Entry}
 use Rattle.serial_model.specs.declared.history.Entry.TheVariants as entry
-use Rattle.serial_model.specs.History.{is_admitted, latest, stream, taken, unsent}
+use Rattle.serial_model.specs.History.{is_admitted, latest, reads_on, stream, taken, unsent}
 use Rattle.shared_book.specs.declared.turns.Refusal.{Refusal}
 use Rattle.shared_book.specs.declared.turns.Refusal.TheVariants as refusal
 use Rattle.serial_model.specs.declared.history.BookCall.{BookCall}
@@ -26,10 +25,13 @@ use Rattle.conn_worker.specs.declared.report.Ended.{Ended}
 use Rattle.conn_worker.specs.declared.report.Ended.TheVariants as ended
 use Rattle.conn_worker.specs.declared.connection.Connection.{Connection}
 use Rattle.conn_worker.specs.declared.connection.Behind.{Behind}
+use Rattle.conn_worker.specs.declared.connection.Stop.{Stop}
+use Rattle.conn_worker.specs.declared.connection.Stop.TheVariants as stop
 use Rattle.conn_worker.specs.declared.deliver.Front.{Front}
 use Rattle.conn_worker.specs.declared.deliver.Front.TheVariants as front
 use Rattle.conn_worker.specs.declared.serve.Heard.{Heard}
 use Rattle.conn_worker.specs.declared.serve.Heard.TheVariants as came
+use Rattle.conn_worker.specs.Quits.{has_quit, stop_behind, stop_in, up_to_quit}
 
 abbrev pub ended_by : Refusal → Ended
 ended_by refusal.Dropped = ended.Dropped
@@ -39,6 +41,7 @@ ended_by refusal.Worn = ended.Worn
 -- why no turn is taken any more, as the seat shows it
 abbrev pub IsEnd : Ended → ℕ → Place → Type 0
 IsEnd ended.PeerEnd id k = ⊥
+IsEnd ended.Quit id k = ⊥
 IsEnd ended.Dropped id k = IsCause refusal.Dropped id k
 IsEnd (ended.BadRequest fault) id k = ⊥
 IsEnd ended.LinkFault id k = ⊥
@@ -95,12 +98,16 @@ IsTaken l id count (entry.Close n, past) = ⊤
 abbrev pub fed_connection : Connection → List ℕ → Connection
 fed_connection c piece = record c { reader = fed c.reader piece }
 
--- the calls run all that the connection has read, up to this fault
-pub record ReadsAll (fault : Option StreamFault) (before after : Connection)
-    (calls : List BookCall) : Type 0 where
-  pub items : requests_in calls ≡ (parse before.reader).items
-  pub fault_is : fault ≡ (parse before.reader).fault
-  pub reader : fault ≡ None → after.reader ≡ (parse before.reader).stream
+-- nothing is read behind what the connection has read for this reason, if for any
+abbrev pub stop_of_reader : Connection → Option Stop
+stop_of_reader c = stop_behind (parse c.reader).items (parse c.reader).fault
+
+-- the calls run all that the connection has read, up to a QUIT, and why it reads no more
+pub record ReadsAll (stop : Option Stop) (before after : Connection) (calls : List BookCall)
+    : Type 0 where
+  pub items : requests_in calls ≡ up_to_quit (parse before.reader).items
+  pub stop_is : stop ≡ stop_of_reader before
+  pub reader : stop ≡ None → after.reader ≡ (parse before.reader).stream
 
 -- some of the requests that the connection has read ran
 pub record RunsPart (clock : Option ℕ) (cause : Ended) (before after : Connection) (old new : Place)
@@ -111,11 +118,11 @@ pub record RunsPart (clock : Option ℕ) (cause : Ended) (before after : Connect
   pub gave_none : gave (limits_of old) turns ≡ []
   pub id : after.id ≡ before.id
   pub requests : after.requests ≡ before.requests + length (runs_in turns)
-  pub runs : IsPrefix (runs_in turns) (parse before.reader).items
+  pub runs : IsPrefix (runs_in turns) (up_to_quit (parse before.reader).items)
   pub cause_is : IsEnd cause before.id new
 
--- all of them ran, up to this fault
-pub record RunsAll (clock : Option ℕ) (fault : Option StreamFault) (before after : Connection)
+-- all of them ran, up to a QUIT, and why no more is read
+pub record RunsAll (clock : Option ℕ) (stop : Option Stop) (before after : Connection)
     (old new : Place) : Type 0 where
   pub turns : List Turn
   pub grows : Grows old new turns
@@ -124,15 +131,15 @@ pub record RunsAll (clock : Option ℕ) (fault : Option StreamFault) (before aft
   pub id : after.id ≡ before.id
   pub requests : after.requests ≡ before.requests + length (runs_in turns)
   pub counted : after.requests ≤ length new.seen
-  pub runs : runs_in turns ≡ (parse before.reader).items
-  pub fault_is : fault ≡ (parse before.reader).fault
-  pub reader : fault ≡ None → after.reader ≡ (parse before.reader).stream
+  pub runs : runs_in turns ≡ up_to_quit (parse before.reader).items
+  pub stop_is : stop ≡ stop_of_reader before
+  pub reader : stop ≡ None → after.reader ≡ (parse before.reader).stream
 
--- all of them ran, up to the fault behind them, and the first bytes that wait were taken
+-- all of them ran, and the first bytes that wait were taken
 pub record HearsAll (clock : Option ℕ) (behind : Behind) (before after : Connection)
     (old new : Place) : Type 0 where
   pub middle : Place
-  pub runs : RunsAll clock behind.fault before after old middle
+  pub runs : RunsAll clock behind.stop before after old middle
   pub takes : Takes before.id behind.front middle new
 
 -- ---- what is written to a link
@@ -143,15 +150,16 @@ Begins id front.Untaken before now = now ≡ before
 Begins id (front.Taken bytes) before now =
     IsWithin before × (is_admitted (past_of before) id ≡ true) × Takes id bytes before now
 
--- what waited for the connection was taken and written, all of it
+-- What waited for the connection was taken and written, all of it. A Close behind a QUIT, which is
+-- none of this call's, gives up the rest.
 pub record Delivers (id : ℕ) (link0 link1 : Option (List ℕ)) (old new : Place) : Type 0 where
   pub turns : List Turn
   pub grows : Grows old new turns
   pub work : (clock : Option ℕ) → All (IsWork id clock) turns
   pub runs_none : runs_in turns ≡ []
   pub wrote : Appends link0 link1 (gave (limits_of old) turns)
-  pub taken_all : length (stream (limits_of old) id (past_of old))
-      ≤ taken (limits_of old) id (past_of new)
+  pub taken_all : reads_on (limits_of old) (past_of new) id ≡ true
+      → length (stream (limits_of old) id (past_of old)) ≤ taken (limits_of old) id (past_of new)
 
 -- some of what waited was taken, and some of that was written
 pub record DeliversPart (cause : Ended) (id : ℕ) (link0 link1 : Option (List ℕ)) (old new : Place)
@@ -175,16 +183,17 @@ DeliveryCounts (Err e) old new = new ≡ old
 -- a count that rose in this call, for an end that the link gave; else no fault and no end of it
 abbrev pub EndCounts : Ended → Counts → Counts → Type 0
 EndCounts ended.PeerEnd old new = Counted old.ends new.ends × (new.faults ≡ old.faults)
+EndCounts ended.Quit old new = (new.faults ≡ old.faults) × (new.ends ≡ old.ends)
 EndCounts ended.Dropped old new = (new.faults ≡ old.faults) × (new.ends ≡ old.ends)
 EndCounts (ended.BadRequest fault) old new = (new.faults ≡ old.faults) × (new.ends ≡ old.ends)
 EndCounts ended.LinkFault old new = Counted old.faults new.faults × (new.ends ≡ old.ends)
 EndCounts ended.NoMemory old new = (new.faults ≡ old.faults) × (new.ends ≡ old.ends)
 EndCounts ended.Worn old new = (new.faults ≡ old.faults) × (new.ends ≡ old.ends)
 
-abbrev pub fault_of : Heard → Option StreamFault
-fault_of came.Idle = None
-fault_of (came.Left e) = None
-fault_of (came.Piece behind) = behind.fault
+abbrev pub stop_of : Heard → Option Stop
+stop_of came.Idle = None
+stop_of (came.Left e) = None
+stop_of (came.Piece behind) = behind.stop
 
 abbrev pub front_of : Heard → Front
 front_of came.Idle = front.Untaken
@@ -234,6 +243,7 @@ pub data Hears (clock : Option ℕ) (most : ℕ) (heard : Heard) (before after :
 -- the count of an end that the link gave rose
 abbrev pub LinkEnds : Ended → Counts → Counts → Type 0
 LinkEnds ended.PeerEnd old new = EndCounted old new
+LinkEnds ended.Quit old new = ⊥
 LinkEnds ended.Dropped old new = ⊥
 LinkEnds (ended.BadRequest fault) old new = ⊥
 LinkEnds ended.LinkFault old new = FaultCounted old new
@@ -259,31 +269,30 @@ HearingCounts (Err e) old new = EndCounts e old new
 
 -- ---- a connection that is served
 
--- the end was read after all that came before it
+-- the end was read after all that came before it, a QUIT too
 abbrev pub IsWhole : Ended → Type 0
 IsWhole ended.PeerEnd = ⊤
+IsWhole ended.Quit = ⊤
 IsWhole ended.Dropped = ⊥
 IsWhole (ended.BadRequest fault) = ⊤
 IsWhole ended.LinkFault = ⊥
 IsWhole ended.NoMemory = ⊥
 IsWhole ended.Worn = ⊥
 
--- the fault of a text, behind its requests
-abbrev pub fault_in : List ℕ → Option StreamFault
-fault_in heard = (parse (fed begun heard)).fault
-
 -- why the connection is served no longer, as the seat or what was read shows it
 abbrev pub IsShown : Ended → ℕ → List ℕ → Place → Type 0
-IsShown ended.PeerEnd id heard k = fault_in heard ≡ None
+IsShown ended.PeerEnd id heard k = stop_in heard ≡ None
+IsShown ended.Quit id heard k =
+    (stop_in heard ≡ Some stop.Quit) × (has_quit id (past_of k) ≡ true)
 IsShown ended.Dropped id heard k = IsEnd ended.Dropped id k
-IsShown (ended.BadRequest fault) id heard k = fault_in heard ≡ Some fault
+IsShown (ended.BadRequest fault) id heard k = stop_in heard ≡ Some (stop.Fault fault)
 IsShown ended.LinkFault id heard k = ⊤
 IsShown ended.NoMemory id heard k = ⊤
 IsShown ended.Worn id heard k = IsEnd ended.Worn id k
 
--- what the service of an admitted connection did, up to its end: the Runs are the first requests
--- in what was read, in order, and what was written are the first bytes that its Takes gave; where
--- the end was read, they are all
+-- What the service of an admitted connection did, up to its end. The Runs are the first requests in
+-- what was read, in order, and none behind a QUIT; what was written are the first bytes that its
+-- Takes gave. Where the end was read, they are all.
 pub record Works (clock : Option ℕ) (cause : Ended) (id requests : ℕ)
     (left0 left1 link0 link1 : Option (List ℕ)) (old new : Place) : Type 0 where
   pub turns : List Turn
@@ -294,11 +303,11 @@ pub record Works (clock : Option ℕ) (cause : Ended) (id requests : ℕ)
   pub read : Consumes left0 left1 heard
   pub bytes : List ℕ
   pub wrote : Appends link0 link1 bytes
-  pub runs : IsPrefix (runs_in turns) (requests_of heard)
+  pub runs : IsPrefix (runs_in turns) (up_to_quit (requests_of heard))
   pub front : IsPrefix bytes (gave (limits_of old) turns)
-  pub all_ran : IsWhole cause → runs_in turns ≡ requests_of heard
+  pub all_ran : IsWhole cause → runs_in turns ≡ up_to_quit (requests_of heard)
   pub all_wrote : IsWhole cause → bytes ≡ gave (limits_of old) turns
-  pub all_taken : IsWhole cause
+  pub all_taken : IsWhole cause → reads_on (limits_of old) (past_of new) id ≡ true
       → All (IsTaken (limits_of old) id (taken (limits_of old) id (past_of new))) turns
   pub shown : IsShown cause id heard new
 

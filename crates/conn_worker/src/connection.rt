@@ -5,9 +5,11 @@ ghost use Rattle.resp_stream.specs.Stream.{begun, fed};
 ghost use Rattle.serial_model.specs.History.{is_admitted};
 ghost use Rattle.seat_turns.specs.Own.{IsWithin, past_of};
 ghost use Rattle.shared_book.specs.Batches.{IsRunAt};
+ghost use Rattle.conn_worker.specs.Quits.{ended_at};
 ghost use Rattle.conn_worker.specs.Visits.{HearsAll, ReadsAll, RunsPart, fed_connection};
 
 use super::gate::Gate;
+use super::quit::is_quit;
 use super::report::{Ended, ended_by};
 use edge_links::Clock;
 use resp_stream::{RequestReader, StreamFault};
@@ -18,11 +20,32 @@ use std::alloc::Global;
 use std::sync::Wait;
 use turn_lock::{Seat, TurnLock};
 
+/// Why nothing is read behind a request.
+#[derive(Clone, Copy, Debug, Drop, PartialEq, Eq)]
+pub enum Stop {
+    /// The bytes behind it have this fault.
+    Fault(StreamFault),
+    /// It is a QUIT.
+    Quit,
+}
+
+impl Stop {
+    /// How the connection ends by it.
+    pub fn ended(self) -> Ended
+        ensures { result ≡ ended_at self }
+    {
+        match self {
+            Stop::Fault(fault) => Ended::BadRequest(fault),
+            Stop::Quit => Ended::Quit,
+        }
+    }
+}
+
 /// What is behind the requests that were read and ran.
 #[derive(Debug, Drop)]
 pub struct Behind {
-    /// The fault of the bytes, if one is there.
-    pub fault: Option<StreamFault>,
+    /// Why no more is read, if so.
+    pub stop: Option<Stop>,
     /// The first bytes that wait for the connection, which were taken, if any do.
     pub front: Option<Octets>,
 }
@@ -47,8 +70,8 @@ impl Connection {
         }
     }
 
-    /// Runs each whole request that is read with this piece, and takes the first bytes that wait
-    /// for the connection.
+    /// Runs each whole request that is read with this piece, up to a QUIT, and takes the first
+    /// bytes that wait for the connection.
     pub fn hear<R: Wait, C: Clock, G: Gate>(
         &mut self,
         rt: &R,
@@ -95,44 +118,48 @@ impl Connection {
     {
         let now = clock.now_ms();
         let mut calls = Vec::new(alloc);
-        let fault = match self.read_calls(gate, now, &mut calls) {
-            Ok(fault) => fault,
+        let stop = match self.read_calls(gate, now, &mut calls) {
+            Ok(stop) => stop,
             Err(NoMemory) => return Err(Ended::NoMemory),
         };
         let batch = run_all(rt, alloc, lock, seat, self.id, self.requests, now, calls);
         self.requests = batch.requests;
         match batch.front {
-            Ok(front) => Ok(Behind { fault, front }),
+            Ok(front) => Ok(Behind { stop, front }),
             Err(refusal) => Err(ended_by(refusal)),
         }
     }
 
-    // Reads each whole request that was fed, as the call that runs it.
+    // Reads each whole request that was fed, up to a QUIT, as the call that runs it.
     fn read_calls<G: Gate>(
         &mut self,
         gate: &G,
         now: u64,
         calls: &mut Vec<BookCall>,
-    ) -> Result<Option<StreamFault>, NoMemory>
+    ) -> Result<Option<Stop>, NoMemory>
         requires { calls.old.items ≡ [] }
         ensures same { (self.new.id ≡ self.old.id) × (self.new.requests ≡ self.old.requests) }
         ensures runs { All (IsRunAt self.old.id now) calls.new.items }
-        ensures ok { IfOk result (λ fault. ReadsAll fault self.old self.new calls.new.items) }
+        ensures ok { IfOk result (λ stop. ReadsAll stop self.old self.new calls.new.items) }
     {
         'requests: loop {
             match self.reader.next_request() {
                 Ok(Some(words)) => {
                     gate.before(self.id, &words);
                     let id = self.id;
+                    let is_last = is_quit(&words);
                     match calls.push(BookCall::Run { id, words, now }) {
                         Ok(()) => {}
                         Err(_) => return Err(NoMemory),
+                    }
+                    if is_last {
+                        return Ok(Some(Stop::Quit));
                     }
                 }
                 Ok(None) => return Ok(None),
                 Err(fault) => {
                     return match fault.place() {
-                        Some(_) => Ok(Some(fault)),
+                        Some(_) => Ok(Some(Stop::Fault(fault))),
                         None => Err(NoMemory),
                     };
                 }

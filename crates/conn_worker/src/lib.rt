@@ -4,6 +4,7 @@
 mod connection;
 mod deliver;
 mod gate;
+mod quit;
 mod report;
 mod serve;
 

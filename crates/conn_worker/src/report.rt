@@ -11,6 +11,8 @@ use shared_book::Refusal;
 pub enum Ended {
     /// The link gave its end.
     PeerEnd,
+    /// Its QUIT ran, and the last bytes that it was sent were written.
+    Quit,
     /// The connection had ended already.
     Dropped,
     /// The bytes that were read have this fault.
@@ -29,6 +31,7 @@ impl Ended {
     {
         match self {
             Ended::PeerEnd => 1,
+            Ended::Quit => 2,
             Ended::Dropped => 3,
             Ended::BadRequest(_) => 4,
             Ended::LinkFault => 5,

@@ -5,15 +5,14 @@ ghost use Rattle.resp_stream.specs.Stream.{begun};
 ghost use Rattle.serial_model.specs.History.{is_admitted};
 ghost use Rattle.seat_turns.specs.Own.{IsWithin, past_of};
 ghost use Rattle.conn_worker.specs.Visits.{EndCounts, Hears, HearsPart, HearingCounts, Visits};
-ghost use Rattle.conn_worker.specs.Visits.{Works, fault_of, front_of, standing};
+ghost use Rattle.conn_worker.specs.Visits.{Works, front_of, standing, stop_of};
 ghost use Rattle.conn_worker.specs.Rounds.{InRounds, Serves};
 
-use super::connection::{Behind, Connection};
+use super::connection::{Behind, Connection, Stop};
 use super::deliver::{Front, deliver_from};
 use super::gate::Gate;
 use super::report::{Ended, Report, ended_by};
 use edge_links::{Clock, Link, LinkRead};
-use resp_stream::StreamFault;
 use shared_book::{Refusal, SharedBook, admit, close, tick};
 use std::alloc::Global;
 use std::sync::Wait;
@@ -34,14 +33,14 @@ pub(crate) enum Heard {
 }
 
 impl Heard {
-    // The fault of the bytes, and what was taken already of what waits.
-    fn behind(self) -> (Option<StreamFault>, Front)
-        ensures { (result.0 ≡ fault_of self) × (result.1 ≡ front_of self) }
+    // Why no more is read, and what was taken already of what waits.
+    fn behind(self) -> (Option<Stop>, Front)
+        ensures { (result.0 ≡ stop_of self) × (result.1 ≡ front_of self) }
     {
         match self {
             Heard::Idle => (None, Front::Untaken),
             Heard::Left(_) => (None, Front::Untaken),
-            Heard::Piece(Behind { fault, front }) => (fault, Front::Taken(front)),
+            Heard::Piece(Behind { stop, front }) => (stop, Front::Taken(front)),
         }
     }
 }
@@ -141,7 +140,7 @@ fn serve_admitted<R: Wait, L: Link, C: Clock, G: Gate>(
             connection,
             &mut buffer,
         );
-        let (fault, front) = match heard {
+        let (stop, front) = match heard {
             Ok(heard) => heard.behind(),
             Err(ended) => return ended,
         };
@@ -149,17 +148,17 @@ fn serve_admitted<R: Wait, L: Link, C: Clock, G: Gate>(
             Ok(()) => gate.after(connection.id, connection.requests),
             Err(ended) => return ended,
         }
-        match fault {
+        match stop {
             None => {}
-            Some(fault) => return Ended::BadRequest(fault),
+            Some(stop) => return stop.ended(),
         }
     }
     unreachable!()
 }
 
 /// Admits a connection, serves it over its link until it ends, and closes it. Each whole request
-/// that is read is one Run, and what waits for the connection is written before the next read. A
-/// read that brings nothing is one Tick, where a key is due.
+/// that is read is one Run, and none behind a QUIT is; what waits for the connection is written
+/// before the next read. A read that brings nothing is one Tick, where a key is due.
 pub fn serve_link<R: Wait, L: Link, C: Clock, G: Gate>(
     rt: &R,
     alloc: Global,

@@ -63,7 +63,9 @@ module _ (c : ℕ) (l : Limits) (past up : List Entry) (id : ℕ) (words : List 
   before = pushes (tests_before now) told
 
   abbrev behind : List (ℕ × Sending)
-  behind = (id, reply_to l up id words m) ∷ replies.late l up id words m
+  behind =
+      (id, reply_to l up id words m)
+      ∷ (replies.late l up id words m ++ replies.ending l up id words m)
 
   abbrev early : List (ℕ × Sending)
   early = sent_to n c before
@@ -75,8 +77,10 @@ module _ (c : ℕ) (l : Limits) (past up : List Entry) (id : ℕ) (words : List 
   sent_is =
       ap (λ ss. sent l c up ++ sent_to n c ss)
       (run_sends_are l up id words m on
+      ∙ append_assoc (before ++ (id, reply_to l up id words m) ∷ []) (replies.late l up id words m)
+      (replies.ending l up id words m)
       ∙ append_assoc before ((id, reply_to l up id words m) ∷ [])
-      (replies.late l up id words m))
+      (replies.late l up id words m ++ replies.ending l up id words m))
       ∙ ap (λ ss. sent l c up ++ ss) (sent_to-append n c before behind)
 
   -- no reply of the entry stands among those

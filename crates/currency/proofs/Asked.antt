@@ -12,7 +12,8 @@ use Rattle.shared_cache.specs.Laws.{IsQuery, LegalLog}
 use Rattle.shared_cache.proofs.FetchLaws.{open_was_sent}
 use Rattle.shared_cache.proofs.LegalLogs.{newest}
 
-older_legal : (s : Setup) (later log : List LogEntry) → LegalLog s (later ++ log) → LegalLog s log
+pub older_legal : (s : Setup) (later log : List LogEntry) → LegalLog s (later ++ log)
+    → LegalLog s log
 older_legal s [] log l = l
 older_legal s (e ∷ later) log l = older_legal s later log l.0
 

@@ -2,46 +2,44 @@
 -- beside the history's laws is what the client asks of its connections' modes, and that what is due
 -- to the fetch's connection lands on a watched link.
 use Rattle.std.proofs.Common.{◌≡◌, ◌+◌, ◌-◌, ◌<◌, ◌≤◌, ◌⊎◌, ℕ, suc, List, ◌∷◌, length}
-use Rattle.std.proofs.Common.{Bool, true, false, Result, refl, ap, sym, ◌∙◌, arith, Some, subst}
-use Rattle.std.proofs.Common.{inl, inr}
+use Rattle.std.proofs.Common.{Bool, true, false, not, Result, Ok, Err, Option, Some, None, refl, ap}
+use Rattle.std.proofs.Common.{sym, ◌∙◌, arith, subst, inl, inr}
 use Rattle.std.specs.Prelude.{slice_get, ◌&&◌, ◌==◌, ◌||◌}
 use Rattle.std.specs.List.{filter}
-use Rattle.std.proofs.lemmas.Bool.{and_parts, both_ways, eqb-true, or_cases, or_from, or_parts}
+use Rattle.std.proofs.lemmas.Bool.{and_parts, both_ways, eqb-true, or_cases, or_from}
 use Rattle.std.proofs.lemmas.Option.{same_Some}
 use Rattle.resp_value.specs.declared.value.Value.{Value}
 use Rattle.resp_value.specs.Carried.{carried}
 use Rattle.resp_value.specs.Tree.{Tree}
 use Rattle.resp_value.specs.ValueTree.{tree_of}
 use Rattle.command_words.specs.Effects.{answer}
-use Rattle.command_words.specs.Queries.{key_of, reads_as_cacheable, writes}
+use Rattle.command_words.specs.Queries.{key_of, reads_as_cacheable, writes, written_by}
 use Rattle.command_words.specs.Words.{reading}
-use Rattle.command_words.specs.Laws.{signals}
+use Rattle.command_words.specs.Laws.{SignalsAreWritten, signals}
 use Rattle.command_words.specs.declared.command.Command.{Command}
 use Rattle.command_words.specs.declared.command.Signalled.{Signalled}
 use Rattle.command_words.specs.declared.command.Signalled.TheVariants as signalled
 use Rattle.command_words.specs.declared.command.WordFault.{WordFault}
-use Rattle.track_modes.specs.Commands.{fault_at}
+use Rattle.track_modes.specs.declared.fault.ModeFault.{ModeFault}
+use Rattle.track_modes.specs.Commands.{changed, ended, fault_at}
 use Rattle.track_modes.specs.ModeState as track
 use Rattle.track_modes.specs.ModeState.{ModeState, remembers_read}
 use Rattle.serial_model.specs.declared.history.Limits.{Limits}
 use Rattle.serial_model.specs.declared.history.Entry.{Entry}
 use Rattle.serial_model.specs.declared.history.Entry.TheVariants.{Run, Tick}
 use Rattle.serial_model.specs.History.{IsLegal, Sending, expired, has_ended, keyspace, made}
-use Rattle.serial_model.specs.History.{made_of}
-use Rattle.serial_model.specs.History.{mode, ran as ran_of, run_entries, runner, runs_of, runs_on}
-use Rattle.serial_model.specs.History.{sent, served, served_reading, state, table}
+use Rattle.serial_model.specs.History.{made_of, mode, ran as ran_of, ran_over, run_entries, runner}
+use Rattle.serial_model.specs.History.{runs_of, runs_on, sent, served_reading, state, table}
 use Rattle.serial_model.specs.Laws.{ChangeIsSignalled, drops_key, has_prefix_of, is_among, is_due}
 use Rattle.serial_model.specs.Laws.{is_forgets, is_told, remembers, signals_key, signals_key_to}
 use Rattle.serial_model.specs.Laws.{signals_to, stops_tracking}
-use Rattle.serial_model.specs.Modes.{Runner, own_effect}
-use Rattle.serial_model.specs.Plain.{IsPlainMode, plain_tracking}
+use Rattle.serial_model.specs.Modes.{Runner, memory_of, own_effect, unless_refused}
 use Rattle.serial_model.specs.State.{State, is_on}
 use Rattle.serial_model.proofs.Counts.{on_is}
 use Rattle.serial_model.proofs.ModeSteps.{mode_own}
 use Rattle.serial_model.proofs.OwedLaws.{read_is_owed_or_told, told_ends_for_cause}
-use Rattle.serial_model.proofs.PlainActions.{plain_cases, states_are_plain}
+use Rattle.serial_model.proofs.PlainActions.{states_are_plain}
 use Rattle.serial_model.proofs.ReadLaws.{read_replies}
-use Rattle.serial_model.proofs.ServedRows.{data_own}
 use Rattle.serial_model.proofs.ToldLaws.{told_is_due}
 use Rattle.shared_cache.specs.declared.entry.CacheEntry.{CacheEntry}
 use Rattle.shared_cache.specs.declared.log.LogEntry.{LogEntry}
@@ -50,28 +48,34 @@ use Rattle.wire_currency.specs.Traffic.{In, Traffic}
 use Rattle.wire_currency.specs.Fetch.{EntryLaws, Excused, Fetch, Lands, ToldOn}
 use Rattle.currency.specs.Links.{Client, IsGot, is_reply_sent, is_single, traffic_of, up_to}
 use Rattle.currency.specs.Current.{fetch_on}
-use Rattle.currency.proofs.Numbered.{next}
+use Rattle.currency.proofs.Numbered.{Next, next}
 use Rattle.currency.proofs.Placed.{reply_at}
 use Rattle.currency.proofs.Replies.{replies_are_of_runs, reply_some}
-use Rattle.currency.proofs.Runs.{Older, RanAt, older_legal, older_up_to}
+use Rattle.currency.proofs.Runs.{Older, RanAt, older_legal, older_up_to, runs_there}
 
 -- ---- modes
 
 -- what stops tracking leaves a mode that does not track
+leaves_off : (fault : Option ModeFault) (c : Command) (m : ModeState)
+    → is_forgets (unless_refused fault c m).memory ≡ true
+    → track.is_on (unless_refused fault c m).mode.tracking ≡ false
+leaves_off None c m h = command_off c m h
+  where
+    command_off : (c : Command) (m : ModeState) → is_forgets (memory_of c m) ≡ true
+        → track.is_on (ended c (changed c m)).tracking ≡ false
+    command_off c m h = grind arith
+leaves_off (Some fault) c m h = absurd (let no : ⊥ = cc in no)
+
 stops_leaves : (by : Runner) (r : Result Command WordFault)
-    → is_forgets (own_effect (served r) by).memory ≡ true
-    → track.is_on (own_effect (served r) by).mode.tracking ≡ false
-unfolding fault_at
-stops_leaves by =
-    plain_cases (λ r. is_forgets (own_effect r by).memory ≡ true
-    → track.is_on (own_effect r by).mode.tracking ≡ false)
-    (λ word. grind arith) (λ o is. grind arith) (λ c row. grind (arith, data_own))
-    (λ f. grind arith)
+    → is_forgets (own_effect r by).memory ≡ true
+    → track.is_on (own_effect r by).mode.tracking ≡ false
+stops_leaves by (Ok c) h = leaves_off (fault_at c by.target_exists by.mode) c by.mode h
+stops_leaves by (Err fault) h = absurd (let no : ⊥ = cc in no)
 
 made_leaves : (words : List (List ℕ)) (by : Runner) → is_forgets (made_of words by).memory ≡ true
     → track.is_on (made_of words by).mode.tracking ≡ false
 unfolding made_of
-made_leaves words by h = stops_leaves by (reading words) h
+made_leaves words by h = stops_leaves by (served_reading words) h
 
 keeps_tracking : (l : Limits) (e : Entry) (up : List Entry) (c : ℕ)
     → track.is_on (mode l c (e ∷ up)).tracking ≡ true → stops_tracking l e up c ≡ false
@@ -93,60 +97,77 @@ keeps_tracking l (Run id words moment) up c tracks =
     ] refl
 keeps_tracking l e up c tracks = refl
 
--- ---- while no option of tracking is served, what an entry signals or drops is due to all that are
--- told of it
+-- ---- an entry that signals a key to others alone
 
-none_loops : (tracks : Bool) → track.is_noloop (plain_tracking tracks) ≡ false
-none_loops true = refl
-none_loops false = refl
+-- the connection itself runs a command that writes the key
+pub record OwnWrite (e : Entry) (c : ℕ) (key : List ℕ) : Type 0 where
+  pub id : ℕ
+  pub words : List (List ℕ)
+  pub moment : ℕ
+  pub is : e ≡ Run id words moment
+  pub own : (id == c) ≡ true
+  pub wrote : writes words key ≡ true
 
-and_false : (b : Bool) → (b && false) ≡ false
-and_false true = refl
-and_false false = refl
+-- what is signalled, and not to it, is passed over: it is the command's, and its own
+passed_over : (sig : Signalled) (left own noloop : Bool) (key : List ℕ)
+    → (left || signals sig key) ≡ true
+    → (left || signals_to sig (own && noloop) key) ≡ false
+    → (own ≡ true) × (signals sig key ≡ true)
+passed_over (signalled.Keys keys) left own noloop key h none =
+    by left own noloop (is_among keys key) h none
+  where
+    by : (left own noloop among : Bool) → (left || among) ≡ true
+        → (left || (among && not (own && noloop))) ≡ false → (own ≡ true) × (among ≡ true)
+    by left own noloop among h none = (grind arith, grind arith)
+passed_over signalled.All left own noloop key h none =
+    absurd (both_ways (left || true) none h)
 
-passes_none : (b : Bool) (m : ModeState) → IsPlainMode m
-    → (b && track.is_noloop m.tracking) ≡ false
-passes_none b m plain =
-    ap (λ t. b && track.is_noloop t) plain.tracking
-    ∙ ap (λ x. b && x) (none_loops (track.is_on m.tracking)) ∙ and_false b
+module _ (written : SignalsAreWritten) (l : Limits) (up : List Entry) where
+  ran_written : (id : ℕ) (words : List (List ℕ)) (m : ℕ) (key : List ℕ)
+      → signals (ran_of l up id words m).signalled key ≡ true → writes words key ≡ true
+  unfolding ran_over written_by
+  ran_written id words m key h = grind arith
 
-same_signal : (sig : Signalled) (passed : Bool) (key : List ℕ) → passed ≡ false
-    → signals_to sig passed key ≡ signals sig key
-same_signal (signalled.Keys keys) passed key none = grind arith
-same_signal signalled.All passed key none = refl
+  own_write : (c : ℕ) (key : List ℕ) (e : Entry) → signals_key l e up key ≡ true
+      → signals_key_to l e up c key ≡ false → OwnWrite e c key
+  own_write c key (Run id words moment) h none =
+      let p = passed_over (ran_of l up id words moment).signalled
+      (is_among (expired l up moment) key) (id == c)
+      (track.is_noloop ((state l up).modes c).tracking) key h none in
+      record {
+        id = id;
+        words = words;
+        moment = moment;
+        is = refl;
+        own = p.0;
+        wrote = ran_written id words moment key p.1;
+      }
+  own_write c key (Tick moment) h none =
+      absurd (both_ways (is_among (expired l up moment) key) none h)
+  own_write c key e h none = absurd (let no : ⊥ = cc in no)
 
 left_of : (a : Bool) → (a || false) ≡ true → a ≡ true
 left_of a h = grind arith
 
-due_of : (x y r d : Bool) → y ≡ x → r ≡ true → (x || d) ≡ true → (y || (r && d)) ≡ true
-due_of x y r d same held h = grind arith
+none_dropped : (to held dropped : Bool) → held ≡ true → (to || (held && dropped)) ≡ false
+    → (to ≡ false) × (dropped ≡ false)
+none_dropped to held dropped is h = (grind arith, grind arith)
+
+neither : (a b : Bool) → a ≡ false → b ≡ false → (a || b) ≡ false
+neither a b e f = grind arith
 
 module _ (l : Limits) (up : List Entry) (c : ℕ) (key : List ℕ) where
   abbrev s : State
   s = state l up
 
-  signals_same : (e : Entry) → signals_key_to l e up c key ≡ signals_key l e up key
-  signals_same (Run id words moment) =
-      ap (λ b. is_among (expired l up moment) key || b)
-      (same_signal (ran_of l up id words moment).signalled
-      ((id == c) && track.is_noloop (s.modes c).tracking) key
-      (passes_none (id == c) (s.modes c) ((states_are_plain l up).each c)))
-  signals_same (Tick moment) = refl
-  signals_same e = refl
-
-  plain_due : (e : Entry) → is_told l up c key ≡ true
-      → (signals_key l e up key || drops_key l e up key) ≡ true
-      → (signals_key_to l e up c key
-      || (remembers (table l up) c key && drops_key l e up key)) ≡ true
-  plain_due e told h =
+  -- while no prefix is registered, one that is told remembers the key
+  pub told_remembers : is_told l up c key ≡ true → remembers (table l up) c key ≡ true
+  told_remembers told =
       let either = (and_parts (is_on s c) (remembers s.table c key
       || has_prefix_of s.prefixes c key) told).1 in
-      let held : remembers (table l up) c key ≡ true =
       left_of (remembers s.table c key)
       (sym (ap (λ ps. remembers s.table c key || has_prefix_of ps c key)
-      (states_are_plain l up).none) ∙ either) in
-      due_of (signals_key l e up key) (signals_key_to l e up c key)
-      (remembers (table l up) c key) (drops_key l e up key) (signals_same e) held h
+      (states_are_plain l up).none) ∙ either)
 
   -- one that is told has not ended
   pub told_runs : is_told l up c key ≡ true → runs_on l up c ≡ true
@@ -185,7 +206,7 @@ module _ (l : Limits) (x : Client) (past : List Entry) (home : Wire) (watched : 
       → is_due l e up (x.id home) (key_of h.query) ≡ true → AsAsked up → AsAsked (e ∷ up)
       → ((w : Wire) → In w watched → has_ended l (x.id w) (e ∷ up) ≡ false)
       → Lands IsGot T F (length up + 1))
-      (law : ChangeIsSignalled) where
+      (law : ChangeIsSignalled) (written : SignalsAreWritten) where
     run_is : (at : ℕ) (t : Read l x past home h AsAsked at)
         → up_to at past ≡ Run t.run.id t.run.words t.run.moment ∷ t.run.up
     run_is at t =
@@ -272,6 +293,21 @@ module _ (l : Limits) (x : Client) (past : List Entry) (home : Wire) (watched : 
               absurd (both_ways (has_ended l c (e ∷ up)) (live home home_watched) ended)
         ]
 
+    -- an own write that is passed over
+    excused : (e : Entry) (up : List Entry) → Older (e ∷ up) past
+        → OwnWrite e (x.id home) (key_of h.query) → Excused IsGot T F (length up + 1)
+    excused e up older w =
+        let c = x.id home in
+        let t = runs_there c w.id w.words w.moment up past w.own
+        (subst (λ y. Older (y ∷ up) past) w.is older) in
+        record {
+          place = t.place;
+          words = w.words;
+          entry = t.entry;
+          there = t.words_are;
+          wrote = w.wrote;
+        }
+
     stays_or_told : (r : ℕ) → r < length past → AsAsked (up_to r past)
         → AsAsked (up_to (suc r) past)
         → ((w : Wire) → In w watched → has_ended l (x.id w) (up_to (suc r) past) ≡ false)
@@ -286,41 +322,65 @@ module _ (l : Limits) (x : Client) (past : List Entry) (home : Wire) (watched : 
         let e = n.entry in
         let up = n.up in
         let number = n.number in
+        let is : length up + 1 ≡ suc r = omega (arith, number) in
         let after : AsAsked (e ∷ up) = subst AsAsked n.after goods in
         let told_up : is_told l up c k ≡ true = ap (λ u. is_told l u c k) (sym n.before) ∙ told in
         let live = λ (w : Wire) (i : In w watched).
         ap (has_ended l (x.id w)) (sym n.after) ∙ lives w i in
+        let held = remembers (table l up) c k in
+        let to = signals_key_to l e up c k in
         let sig = signals_key l e up k in
         let dropped = drops_key l e up k in
-        elim (sig || dropped) as (λ b. (sig || dropped) ≡ b
+        elim (to || (held && dropped)) as (λ b. (to || (held && dropped)) ≡ b
         → ((is_told l (up_to (suc r) past) c k ≡ true) × (F.answer (suc r) ≡ F.answer r))
         ⊎ (Lands IsGot T F (suc r) ⊎ Excused IsGot T F (suc r))) [
           | true ↦ λ due.
-              let is : length up + 1 ≡ suc r = omega (arith, number) in
               inr (inl (subst (Lands IsGot T F) is
               (landed e up n.older (told_runs l up c k told_up)
-              (told_is_due l e up c k told_up (plain_due l up c k e told_up due))
+              (told_is_due l e up c k told_up due)
               (subst AsAsked n.before good) after live)))
           | false ↦ λ quiet.
-              elim (is_told l (e ∷ up) c k) as (λ b. is_told l (e ∷ up) c k ≡ b
+              let none = none_dropped to held dropped (told_remembers l up c k told_up) quiet in
+              elim sig as (λ b. sig ≡ b
               → ((is_told l (up_to (suc r) past) c k ≡ true) × (F.answer (suc r) ≡ F.answer r))
               ⊎ (Lands IsGot T F (suc r) ⊎ Excused IsGot T F (suc r))) [
-                | true ↦ λ still.
-                    let none = (or_parts sig dropped quiet).0 in
-                    let same = (law l e up k none).1 h.query cacheable refl in
-                    inl (
-                      ap (λ u. is_told l u c k) n.after ∙ still,
-                      ap (λ a. carried x.setup.mode.proto (tree_of a))
-                          (ap (λ u. answer h.query (keyspace l u)) n.after ∙ same
-                          ∙ ap (λ u. answer h.query (keyspace l u)) (sym n.before)),
-                    )
-                | false ↦ λ gone.
-                    let cause = told_ends_for_cause l e up c k told_up gone in
-                    let stays = keeps_tracking l e up c (tracks (e ∷ up) after) in
-                    let lives_up = live home home_watched in
-                    absurd (let no : ⊥ = grind (arith, both_ways, or_from) in no)
+                | true ↦ λ signalled.
+                    inr (inr (subst (Excused IsGot T F) is
+                    (excused e up n.older (own_write written l up c k e signalled none.0))))
+                | false ↦ λ unsignalled.
+                    inl (stays r n told_up after live unsignalled
+                    (neither sig dropped unsignalled none.1))
               ] refl
         ] refl
+      where
+        stays : (r : ℕ) (n : Next past r) → is_told l n.up (x.id home) (key_of h.query) ≡ true
+            → AsAsked (n.entry ∷ n.up)
+            → ((w : Wire) → In w watched → has_ended l (x.id w) (n.entry ∷ n.up) ≡ false)
+            → signals_key l n.entry n.up (key_of h.query) ≡ false
+            → (signals_key l n.entry n.up (key_of h.query)
+            || drops_key l n.entry n.up (key_of h.query)) ≡ false
+            → (is_told l (up_to (suc r) past) (x.id home) (key_of h.query) ≡ true)
+            × (F.answer (suc r) ≡ F.answer r)
+        stays r n told_up after live none quiet =
+            let c = x.id home in
+            let k = key_of h.query in
+            let e = n.entry in
+            let up = n.up in
+            elim (is_told l (e ∷ up) c k) as (λ b. is_told l (e ∷ up) c k ≡ b
+            → (is_told l (up_to (suc r) past) c k ≡ true) × (F.answer (suc r) ≡ F.answer r)) [
+              | true ↦ λ still.
+                  let same = (law l e up k none).1 h.query cacheable refl in (
+                    ap (λ u. is_told l u c k) n.after ∙ still,
+                    ap (λ a. carried x.setup.mode.proto (tree_of a))
+                        (ap (λ u. answer h.query (keyspace l u)) n.after ∙ same
+                        ∙ ap (λ u. answer h.query (keyspace l u)) (sym n.before)),
+                  )
+              | false ↦ λ gone.
+                  let cause = told_ends_for_cause l e up c k told_up gone in
+                  let stays = keeps_tracking l e up c (tracks (e ∷ up) after) in
+                  let lives_up = live home home_watched in
+                  absurd (let no : ⊥ = grind (arith, both_ways, or_from) in no)
+            ] refl
 
     pub entry_laws_of : (at : ℕ)
         → (is_single x.setup.mode.shape ≡ true → (r j i : ℕ) (ws : List (List ℕ))

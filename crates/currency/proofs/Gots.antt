@@ -18,11 +18,11 @@ use Rattle.serial_model.specs.State.{is_live}
 use Rattle.serial_model.specs.Actions.{Sending, Message, End}
 use Rattle.serial_model.specs.Plain.{pushed, pushes, tests_before, tests_then, told_then}
 use Rattle.serial_model.specs.History.{IsLegal, run_action, sends, sent_to, sent, state}
-use Rattle.serial_model.specs.History.{tick_action}
+use Rattle.serial_model.specs.History.{is_quit, tick_action}
 use Rattle.serial_model.proofs.PlainActions.{tick_sends}
 use Rattle.shared_cache.specs.Notices.{push, kind_of, is_reply}
 use Rattle.currency.specs.Links.{IsGot, is_push, is_reply_sent}
-use Rattle.currency.proofs.Replies.{early, late, reply_no_push, reply_to, run_sends_are}
+use Rattle.currency.proofs.Replies.{early, ending, late, reply_no_push, reply_to, run_sends_are}
 
 -- ---- a push is got as a push, and a reply as a reply
 
@@ -128,22 +128,28 @@ sends_form l (Tick m) past h =
     let s = state l past in
     let t = tick_action m s in
     subst AllSent (sym (tick_sends l past m))
+    (form_append ((pushes (tests_before s) (group t.expired s.table) ++ [])
+    ++ pushes (tests_then t s) (told_then l t s)) []
     (form_append (pushes (tests_before s) (group t.expired s.table) ++ [])
     (pushes (tests_then t s) (told_then l t s))
     (form_append (pushes (tests_before s) (group t.expired s.table)) []
     (pushes_form (tests_before s) (group t.expired s.table)) none_form)
     (pushes_form (tests_then t s) (told_then l t s)))
+    none_form)
 sends_form l (Close id) past h = end_form (is_live ((state l past).standing id)) id
 sends_form l (Run id words m) past h =
     let s = state l past in
     let t = run_action id words m s in
     subst AllSent (sym (run_sends_are l past id words m h.0))
+    (form_append ((early l past id words m ++ (id, reply_to l past id words m) ∷ [])
+    ++ late l past id words m) (ending l past id words m)
     (form_append (early l past id words m ++ (id, reply_to l past id words m) ∷ [])
     (late l past id words m)
     (form_append (early l past id words m) ((id, reply_to l past id words m) ∷ [])
     (pushes_form (tests_before s) (group t.expired s.table))
     (one_form id (reply_to l past id words m) (reply_form l past id words m)))
     (pushes_form (tests_then t s) (told_then l t s)))
+    (end_form (is_quit words) id))
 sends_form l (Admit id) past h = none_form
 sends_form l (Take id max) past h = none_form
 

@@ -1,12 +1,16 @@
--- What the commands of a client make of its connection.
-use Rattle.std.proofs.Common.{◌≡◌, ℕ, zero, suc, List, [], ◌∷◌, ◌++◌, length, true, false, cond}
-use Rattle.std.proofs.Common.{refl, ap, sym, ◌∙◌, arith, Some, map, append_assoc, length-append}
-use Rattle.std.proofs.Common.{codes, Bool, Result}
+-- What the commands of a client make of its connection: its protocol and how it is tracked. What
+-- CLIENT CACHING says is spent by each command, and is no part of this.
+use Rattle.std.proofs.Common.{◌≡◌, ◌≤◌, ℕ, zero, suc, List, [], ◌∷◌, ◌++◌, length, true, false}
+use Rattle.std.proofs.Common.{cond, refl, ap, sym, subst, ◌∙◌, arith, Some, None, map, append_assoc}
+use Rattle.std.proofs.Common.{length-append, codes, Bool, Result, ◌⊎◌, inl, inr, Option}
 use Rattle.std.proofs.lemmas.Bool.{eqb-true}
 use Rattle.std.specs.Prelude.{slice_get, ◌==◌}
+use Rattle.std.specs.List.{flat_map}
 use Rattle.resp_value.specs.Lists.{IsPrefix}
-use Rattle.resp_value.specs.declared.value.Proto.TheVariants.{Three}
+use Rattle.resp_value.specs.declared.value.Proto.{Proto}
+use Rattle.resp_value.specs.declared.value.Proto.TheVariants.{Two, Three}
 use Rattle.command_words.specs.declared.command.Command.{Command}
+use Rattle.command_words.specs.declared.command.Command.TheVariants.{ClientCaching}
 use Rattle.command_words.specs.declared.command.WordFault.{WordFault}
 use Rattle.command_words.specs.Words.{reading}
 use Rattle.command_words.specs.StringWords.{string_reading}
@@ -16,36 +20,122 @@ use Rattle.command_words.specs.ConnectionWords.{connection_reading}
 use Rattle.command_words.specs.ClientWords.{client_reading}
 use Rattle.command_words.specs.TrackingWords.{tracking}
 use Rattle.command_words.specs.Control.{is_control, reads_as_control}
-use Rattle.track_modes.specs.Commands.{fault_at, spent_mode}
-use Rattle.track_modes.specs.ModeState.{ModeState, new_mode}
+use Rattle.command_words.specs.Queries.{key_of}
+use Rattle.track_modes.specs.declared.fault.ModeFault.{ModeFault}
+use Rattle.track_modes.specs.declared.tracking.TrackMode.{TrackMode}
+use Rattle.track_modes.specs.declared.tracking.TrackMode.TheVariants as track
+use Rattle.track_modes.specs.declared.tracking.Tracking.{Tracking}
+use Rattle.track_modes.specs.declared.tracking.Tracking.TheVariants.{Off, On}
+use Rattle.track_modes.specs.Commands.{fault_at, is_no_memory, spent_mode}
+use Rattle.track_modes.specs.ModeState.{ModeState}
+use Rattle.track_modes.specs.Tracked.{caching_fault}
 use Rattle.serial_model.specs.declared.history.Limits.{Limits}
 use Rattle.serial_model.specs.declared.history.Entry.{Entry}
 use Rattle.serial_model.specs.declared.history.Entry.TheVariants.{Admit, Run, Tick, Take, Close}
-use Rattle.serial_model.specs.Modes.{OwnEffect, Runner, own_effect}
-use Rattle.serial_model.specs.Plain.{plain_tracking}
+use Rattle.serial_model.specs.Modes.{Runner, own_effect, unless_refused}
 use Rattle.serial_model.specs.History.{mode, made_of, runner, runs_of, served, state}
 use Rattle.serial_model.proofs.Ends.{mode_by_own_runs}
 use Rattle.serial_model.proofs.ModeSteps.{mode_other, mode_own}
-use Rattle.serial_model.proofs.PlainActions.{plain_cases}
-use Rattle.serial_model.proofs.ServedRows.{data_own}
+use Rattle.shared_cache.specs.declared.log.Caching.{Caching}
+use Rattle.shared_cache.specs.declared.log.Caching.TheVariants.{Default, OptIn, OptOut, Bcast}
+use Rattle.shared_cache.specs.declared.log.ClientMode.{ClientMode}
 use Rattle.shared_cache.specs.declared.log.Wire.TheVariants.{Main}
 use Rattle.shared_cache.specs.declared.log.LogEntry.{LogEntry}
-use Rattle.shared_cache.specs.Held.{Setup, SentCommand, Caller, sent, commands}
+use Rattle.shared_cache.specs.declared.log.LogEntry.TheVariants as entry
+use Rattle.shared_cache.specs.declared.entry.CacheEntry.{CacheEntry}
+use Rattle.shared_cache.specs.declared.lead.CachingWord.{CachingWord}
+use Rattle.shared_cache.specs.declared.lead.CachingWord.TheVariants.{Yes, No}
+use Rattle.shared_cache.specs.Held.{Setup, SentCommand, Caller, sent, commands, caching_command}
+use Rattle.shared_cache.specs.Held.{held, held_for, is_read, led_by, put_ask, put_command}
+use Rattle.shared_cache.specs.Held.{read_lead, send_lead}
 use Rattle.shared_cache.specs.Laws.{Every, LegalLog}
-use Rattle.std.specs.List.{flat_map}
-use Rattle.shared_cache.specs.Log.{caching_words, noloop_words, steps_of, is_told, told_id}
-use Rattle.shared_cache.specs.Log.{put_tracking, put_step}
+use Rattle.shared_cache.specs.Log.{caching_on, caching_on_for, caching_words, noloop_words}
+use Rattle.shared_cache.specs.Log.{is_told, put_step, put_tracking, steps_of, told_id}
 use Rattle.shared_cache.specs.Log.{tracking as asks_tracking}
-use Rattle.shared_cache.specs.ClientFields.{IsServed}
 use Rattle.shared_cache.proofs.CommandLaws.{no_control}
-use Rattle.shared_cache.proofs.StepCases.{sent_callers}
+use Rattle.shared_cache.proofs.Every.{every_append}
+use Rattle.shared_cache.proofs.Led.{every_led}
+use Rattle.currency.specs.Links.{IsKeyMode, is_by_key}
 use Rattle.currency.proofs.Lists.{get_front, get_last}
 
--- the mode of a client's connection after so many of its commands
-unfoldable pub mode_by : ℕ → ModeState
-mode_by zero = new_mode
-mode_by (suc zero) = record new_mode { proto = Three }
-mode_by (suc (suc n)) = record new_mode { proto = Three; tracking = plain_tracking true }
+-- ---- the settings of a connection
+
+-- how a client asks to be tracked
+abbrev pub asked_track : Caching → TrackMode
+asked_track Default = track.Default
+asked_track OptIn = track.OptIn
+asked_track OptOut = track.OptOut
+asked_track (Bcast prefixes) = track.Bcast prefixes
+
+abbrev pub asked_tracking : ClientMode → Tracking
+asked_tracking m =
+    On (record { mode = asked_track m.caching; redirect = None; noloop = m.noloop })
+
+-- a mode of this protocol and this tracking
+pub record Has (proto : Proto) (tracking : Tracking) (m : ModeState) : Type 0 where
+  pub proto_is : m.proto ≡ proto
+  pub tracking_is : m.tracking ≡ tracking
+
+-- after so many of a client's commands
+abbrev pub proto_by : ℕ → Proto
+proto_by zero = Two
+proto_by (suc n) = Three
+
+abbrev pub tracking_by : ClientMode → ℕ → Tracking
+tracking_by m zero = Off
+tracking_by m (suc zero) = Off
+tracking_by m (suc (suc n)) = asked_tracking m
+
+abbrev pub HasBy : ClientMode → ℕ → ModeState → Type 0
+HasBy m n s = Has (proto_by n) (tracking_by m n) s
+
+pub by_two : (m : ClientMode) (n : ℕ) (s : ModeState) → 2 ≤ n → HasBy m n s
+    → Has Three (asked_tracking m) s
+by_two m zero s le h = absurd (let no : ⊥ = omega (arith, le) in no)
+by_two m (suc zero) s le h = absurd (let no : ⊥ = omega (arith, le) in no)
+by_two m (suc (suc n)) s le h = h
+
+-- ---- the handshake's commands
+
+hello_made : (by : Runner) → by.mode.tracking ≡ Off
+    → Has Three Off (made_of (codes "HELLO" ∷ codes "3" ∷ []) by).mode
+unfolding made_of reading string_reading hash_reading key_reading connection_reading fault_at
+hello_made by off = record { proto_is = refl; tracking_is = off }
+
+abbrev with_tracking : Runner → Tracking → Runner
+with_tracking by t = record by { mode = record by.mode { tracking = t } }
+
+abbrev pub track_words : Caching → Bool → List (List ℕ)
+track_words c noloop =
+    codes "CLIENT" ∷ codes "TRACKING" ∷ codes "ON" ∷ (caching_words c ++ noloop_words noloop)
+
+track_made : (by : Runner) (c : Caching) (noloop : Bool) → is_by_key c ≡ true
+    → (made_of (track_words c noloop) (with_tracking by Off)).mode
+    ≡ record by.mode {
+      tracking = On (record { mode = asked_track c; redirect = None; noloop = noloop });
+      caching = false;
+    }
+unfolding made_of reading string_reading hash_reading key_reading connection_reading client_reading
+    tracking fault_at
+track_made by Default true h = refl
+track_made by Default false h = refl
+track_made by OptIn true h = refl
+track_made by OptIn false h = refl
+track_made by OptOut true h = refl
+track_made by OptOut false h = refl
+track_made by (Bcast prefixes) noloop h = absurd (let no : ⊥ = cc in no)
+
+tracking_made : (by : Runner) (m : ClientMode) → is_by_key m.caching ≡ true
+    → Has Three Off by.mode
+    → Has Three (asked_tracking m) (made_of (asks_tracking m []) by).mode
+tracking_made by m keys h =
+    let is : (made_of (asks_tracking m []) by).mode
+    ≡ record by.mode { tracking = asked_tracking m; caching = false } =
+    ap (λ t. (made_of (asks_tracking m []) (with_tracking by t)).mode) h.tracking_is
+    ∙ track_made by m.caching m.noloop keys in record {
+      proto_is = ap (λ (s : ModeState). s.proto) is ∙ h.proto_is;
+      tracking_is = ap (λ (s : ModeState). s.tracking) is;
+    }
 
 -- ---- commands behind the handshake
 
@@ -54,121 +144,157 @@ pub served_no_control : (read : Result Command WordFault) → reads_as_control r
     → reads_as_control (served read) ≡ false
 served_no_control read h = grind arith
 
-own_spent : (by : Runner) (read : Result Command WordFault)
-    → reads_as_control (served read) ≡ false
-    → (own_effect (served read) by).mode ≡ spent_mode by.mode
-own_spent by =
-    plain_cases (λ r. reads_as_control r ≡ false → (own_effect r by).mode ≡ spent_mode by.mode)
-    (λ word none. absurd (let no : ⊥ = cc in no)) (λ o is none. absurd (let no : ⊥ = cc in no))
-    (λ c row none. ap (λ (e : OwnEffect). e.mode) (data_own c by row)) (λ f none. refl)
+own_spent : (by : Runner) (read : Result Command WordFault) → reads_as_control read ≡ false
+    → (own_effect read by).mode ≡ spent_mode by.mode
+unfolding fault_at
+own_spent by read h = grind arith
 
--- what they make of a connection that CLIENT CACHING said nothing of is what it was
-pub made_same : (words : List (List ℕ)) (by : Runner) → is_control words ≡ false
-    → by.mode.caching ≡ false → (made_of words by).mode ≡ by.mode
+plain_made : (words : List (List ℕ)) (by : Runner) → is_control words ≡ false
+    → (made_of words by).mode ≡ spent_mode by.mode
 unfolding made_of is_control
-made_same words by h none =
-    own_spent by (reading words) (served_no_control (reading words) h)
-    ∙ ap (λ b. record by.mode { caching = b }) (sym none)
+plain_made words by h = own_spent by (served (reading words)) (served_no_control (reading words) h)
 
--- who runs a command in this mode
-abbrev run_by : ℕ → Bool → ModeState → Runner
-run_by id exists m = record { id = id; mode = m; target_exists = exists }
+-- CLIENT CACHING, refused or not, leaves the settings
+module _ (proto : Proto) (t : Tracking) where
+  after_caching : (m : ModeState) (is_yes : Bool) (fault : Option ModeFault) → Has proto t m
+      → Has proto t (unless_refused fault (ClientCaching is_yes) m).mode
+  after_caching m is_yes None h = record { proto_is = h.proto_is; tracking_is = h.tracking_is }
+  after_caching m is_yes (Some fault) h =
+      elim (is_no_memory fault) as (λ b. Has proto t (cond b m (spent_mode m))) [
+        | true ↦ h
+        | false ↦ record { proto_is = h.proto_is; tracking_is = h.tracking_is }
+      ]
 
-module _ (id : ℕ) (exists : Bool) where
-  hello_made :
-      (made_of (codes "HELLO" ∷ codes "3" ∷ []) (run_by id exists (mode_by 0))).mode ≡ mode_by 1
-  unfolding made_of reading string_reading hash_reading key_reading connection_reading fault_at
-      mode_by
-  hello_made = refl
-
-  tracking_made :
-      (made_of (codes "CLIENT" ∷ codes "TRACKING" ∷ codes "ON" ∷ [])
-      (run_by id exists (mode_by 1))).mode ≡ mode_by 2
+  caching_made : (by : Runner) (w : CachingWord) → Has proto t by.mode
+      → Has proto t (made_of (caching_command w).words by).mode
   unfolding made_of reading string_reading hash_reading key_reading connection_reading
-      client_reading tracking fault_at mode_by
-  tracking_made = refl
+      client_reading fault_at
+  caching_made by Yes h =
+      after_caching by.mode true (caching_fault true by.mode.tracking) h
+  caching_made by No h =
+      after_caching by.mode false (caching_fault false by.mode.tracking) h
 
-by_caching : (n : ℕ) → (mode_by n).caching ≡ false
-unfolding mode_by
-by_caching zero = refl
-by_caching (suc zero) = refl
-by_caching (suc (suc n)) = refl
+-- a command that a client sends behind its handshake: none of control, or its own CLIENT CACHING
+abbrev pub IsBehind : List (List ℕ) → Type 0
+IsBehind words =
+    (is_control words ≡ false) ⊎ ((w : CachingWord) × (words ≡ (caching_command w).words))
 
-module _ (s : Setup) (served : IsServed s.mode) where
-  no_control_at : (cs : List SentCommand) (k : ℕ) (words : List (List ℕ))
-      → Every (λ (c : SentCommand). c.origin ≡ Caller) cs
-      → Every (λ (c : SentCommand). c.origin ≡ Caller → is_control c.words ≡ false) cs
-      → slice_get (map (λ (c : SentCommand). c.words) cs) k ≡ Some words
-      → is_control words ≡ false
-  no_control_at [] k words a b e = cc
-  no_control_at (c ∷ cs) zero words a b e = grind arith
-  no_control_at (c ∷ cs) (suc k) words a b e = no_control_at cs k words a.1 b.1 e
+behind_made : (proto : Proto) (t : Tracking) (by : Runner) (words : List (List ℕ)) → IsBehind words
+    → Has proto t by.mode → Has proto t (made_of words by).mode
+behind_made proto t by words (inl plain) h = record {
+  proto_is = ap (λ (m : ModeState). m.proto) (plain_made words by plain) ∙ h.proto_is;
+  tracking_is = ap (λ (m : ModeState). m.tracking) (plain_made words by plain) ∙ h.tracking_is;
+}
+behind_made proto t by words (inr c) h =
+    subst (λ ws. Has proto t (made_of ws by).mode) (sym c.1) (caching_made proto t by c.0 h)
 
+-- ---- what is sent behind the handshake
+
+-- a caller's command, or the client's own CLIENT CACHING
+abbrev IsOwn : SentCommand → Type 0
+IsOwn c = (c.origin ≡ Caller) ⊎ ((w : CachingWord) × (c.words ≡ (caching_command w).words))
+
+led_own : (l : Option CachingWord) (words : List (List ℕ)) → Every IsOwn (led_by l words)
+led_own l words = every_led IsOwn l words (λ w. inr (w, refl)) (inl refl)
+
+ask_own : (o : Option CacheEntry) (m : ClientMode) (on : Bool) (q : List (List ℕ))
+    → Every IsOwn (put_ask o m on q)
+ask_own (Some h) m on q = tt
+ask_own None m on q = led_own (read_lead m.caching on) q
+
+sent_own : (s : Setup) (log : List LogEntry) → Every IsOwn (sent s log)
+sent_own s [] = tt
+sent_own s (entry.Ask q ∷ log) =
+    every_append IsOwn (sent s log)
+    (put_ask (held_for q (held s log)) s.mode (caching_on_for s.mode log (key_of q)) q)
+    (sent_own s log)
+    (ask_own (held_for q (held s log)) s.mode (caching_on_for s.mode log (key_of q)) q)
+sent_own s (entry.Send ws ∷ log) =
+    every_append IsOwn (sent s log) (put_command s.mode (caching_on s.mode log) ws)
+    (sent_own s log)
+    (led_own (send_lead s.mode.caching (caching_on s.mode log) (is_read ws)) ws)
+sent_own s (entry.Poll n ∷ log) = sent_own s log
+sent_own s (entry.TakeOut w n ∷ log) = sent_own s log
+sent_own s (entry.Got w v ∷ log) = sent_own s log
+sent_own s (entry.End w ∷ log) = sent_own s log
+sent_own s (entry.Bad w v ∷ log) = sent_own s log
+
+behind_one : (c : SentCommand) → IsOwn c → (c.origin ≡ Caller → is_control c.words ≡ false)
+    → IsBehind c.words
+behind_one c (inl caller) plain = inl (plain caller)
+behind_one c (inr word) plain = inr word
+
+behind_at : (cs : List SentCommand) (k : ℕ) (words : List (List ℕ)) → Every IsOwn cs
+    → Every (λ (c : SentCommand). c.origin ≡ Caller → is_control c.words ≡ false) cs
+    → slice_get (map (λ (c : SentCommand). c.words) cs) k ≡ Some words → IsBehind words
+behind_at [] k words a b e = absurd (let no : ⊥ = cc in no)
+behind_at (c ∷ cs) zero words a b e =
+    let same : c.words ≡ words = cc in subst IsBehind same (behind_one c a.0 b.0)
+behind_at (c ∷ cs) (suc k) words a b e = behind_at cs k words a.1 b.1 e
+
+module _ (s : Setup) (key_mode : IsKeyMode s.mode) where
   -- on one link the handshake is HELLO 3 and the tracking command
-  plain_commands : (log : List LogEntry)
+  pub plain_commands : (log : List LogEntry)
       → commands s Main log
       ≡ (codes "HELLO" ∷ codes "3" ∷ []) ∷ asks_tracking s.mode []
       ∷ map (λ (c : SentCommand). c.words) (sent s log)
   plain_commands log =
       ap (λ p. flat_map (put_step s.mode (is_told s.mode log) (told_id s.mode log))
       (steps_of Main s.mode.shape p) ++ map (λ (c : SentCommand). c.words) (sent s log))
-      served.proto
+      key_mode.link.proto
       ∙ ap (λ h. (codes "HELLO" ∷ codes "3" ∷ [])
       ∷ ((put_tracking h s.mode (is_told s.mode log) (told_id s.mode log) ++ [])
-      ++ map (λ (c : SentCommand). c.words) (sent s log))) served.shape
+      ++ map (λ (c : SentCommand). c.words) (sent s log))) key_mode.link.shape
 
-  -- no command behind the handshake is a control command
-  pub is_no_control : (log : List LogEntry) → LegalLog s log → (k : ℕ) (words : List (List ℕ))
-      → slice_get (commands s Main log) (suc (suc k)) ≡ Some words → is_control words ≡ false
-  is_no_control log h k words e =
-      no_control_at (sent s log) k words (sent_callers s log served.caching) (no_control s log h)
+  is_behind : (log : List LogEntry) → LegalLog s log → (k : ℕ) (words : List (List ℕ))
+      → slice_get (commands s Main log) (suc (suc k)) ≡ Some words → IsBehind words
+  is_behind log h k words e =
+      behind_at (sent s log) k words (sent_own s log) (no_control s log h)
       (sym (ap (λ l. slice_get l (suc (suc k))) (plain_commands log)) ∙ e)
 
-  -- the tracking command, by default
-  asks_plainly : asks_tracking s.mode [] ≡ codes "CLIENT" ∷ codes "TRACKING" ∷ codes "ON" ∷ []
-  asks_plainly = λ i.
-      codes "CLIENT" ∷ codes "TRACKING" ∷ codes "ON"
-      ∷ (caching_words (served.caching i) ++ noloop_words (served.noloop i))
-
-  next_mode : (log : List LogEntry) → LegalLog s log → (id : ℕ) (exists : Bool) (n : ℕ)
+  next_settings : (log : List LogEntry) → LegalLog s log → (by : Runner) (n : ℕ)
       (words : List (List ℕ)) → slice_get (commands s Main log) n ≡ Some words
-      → (made_of words (run_by id exists (mode_by n))).mode ≡ mode_by (suc n)
-  unfolding mode_by
-  next_mode log h id exists zero words e =
+      → HasBy s.mode n by.mode → HasBy s.mode (suc n) (made_of words by).mode
+  next_settings log h by zero words e has =
       let first : Some (codes "HELLO" ∷ codes "3" ∷ []) ≡ Some words
       = sym (ap (λ l. slice_get l 0) (plain_commands log)) ∙ e in
-      grind (arith, codes, hello_made)
-  next_mode log h id exists (suc zero) words e =
+      let same : codes "HELLO" ∷ codes "3" ∷ [] ≡ words = cc in
+      subst (λ ws. Has Three Off (made_of ws by).mode) same (hello_made by has.tracking_is)
+  next_settings log h by (suc zero) words e has =
       let second : Some (asks_tracking s.mode []) ≡ Some words
       = sym (ap (λ l. slice_get l 1) (plain_commands log)) ∙ e in
       let same : asks_tracking s.mode [] ≡ words = cc in
-      ap (λ w. (made_of w (run_by id exists (mode_by 1))).mode) (sym same ∙ asks_plainly)
-      ∙ tracking_made id exists
-  next_mode log h id exists (suc (suc k)) words e =
-      made_same words (run_by id exists (mode_by (suc (suc k)))) (is_no_control log h k words e)
-      (by_caching (suc (suc k)))
+      subst (λ ws. Has Three (asked_tracking s.mode) (made_of ws by).mode) same
+      (tracking_made by s.mode key_mode.keys has)
+  next_settings log h by (suc (suc k)) words e has =
+      behind_made Three (asked_tracking s.mode) by words (is_behind log h k words e) has
 
-  first_is : (l : Limits) (c : ℕ) → mode l c [] ≡ mode_by 0
-  unfolding state mode_by
-  first_is l c = refl
+  first_has : (l : Limits) (c : ℕ) → HasBy s.mode 0 (mode l c [])
+  unfolding state
+  first_has l c = record { proto_is = refl; tracking_is = refl }
 
-  -- the mode of the client's connection is that of its commands that ran
+  -- the connection's mode has the settings of its commands that ran
   pub asked : (l : Limits) (c : ℕ) (log : List LogEntry) → LegalLog s log → (up : List Entry)
       → IsPrefix (runs_of c up) (commands s Main log)
-      → mode l c up ≡ mode_by (length (runs_of c up))
-  asked l c log h [] p = first_is l c
+      → HasBy s.mode (length (runs_of c up)) (mode l c up)
+  asked l c log h [] p = first_has l c
   asked l c log h (Admit id ∷ up) p =
-      mode_by_own_runs l c (Admit id) up tt ∙ asked l c log h up p
-  asked l c log h (Tick m ∷ up) p = mode_by_own_runs l c (Tick m) up tt ∙ asked l c log h up p
+      subst (HasBy s.mode (length (runs_of c up))) (sym (mode_by_own_runs l c (Admit id) up tt))
+      (asked l c log h up p)
+  asked l c log h (Tick m ∷ up) p =
+      subst (HasBy s.mode (length (runs_of c up))) (sym (mode_by_own_runs l c (Tick m) up tt))
+      (asked l c log h up p)
   asked l c log h (Take id max ∷ up) p =
-      mode_by_own_runs l c (Take id max) up tt ∙ asked l c log h up p
+      subst (HasBy s.mode (length (runs_of c up)))
+      (sym (mode_by_own_runs l c (Take id max) up tt)) (asked l c log h up p)
   asked l c log h (Close id ∷ up) p =
-      mode_by_own_runs l c (Close id) up tt ∙ asked l c log h up p
+      subst (HasBy s.mode (length (runs_of c up))) (sym (mode_by_own_runs l c (Close id) up tt))
+      (asked l c log h up p)
   asked l c log h (Run id words m ∷ up) p =
       elim (id == c) as (λ b. (id == c) ≡ b
       → IsPrefix (cond b (runs_of c up ++ words ∷ []) (runs_of c up)) (commands s Main log)
-      → mode l c (Run id words m ∷ up)
-      ≡ mode_by (length (cond b (runs_of c up ++ words ∷ []) (runs_of c up)))) [
+      → HasBy s.mode (length (cond b (runs_of c up ++ words ∷ []) (runs_of c up)))
+      (mode l c (Run id words m ∷ up))) [
         | true ↦ λ own p.
             let before : IsPrefix (runs_of c up) (commands s Main log) =
             (words ∷ p.0, sym (append_assoc (runs_of c up) (words ∷ []) p.0) ∙ p.1) in
@@ -176,12 +302,16 @@ module _ (s : Setup) (served : IsServed s.mode) where
             let at : slice_get (commands s Main log) n ≡ Some words =
             ap (λ cs. slice_get cs n) (sym p.1)
             ∙ get_front (runs_of c up ++ words ∷ []) p.0 n words (get_last (runs_of c up) words) in
-            let exists = (runner l up id words).target_exists in
-            mode_own l c id m words up own
-            ∙ ap (λ x. (made_of words (run_by id exists x)).mode)
-            (ap (λ d. mode l d up) (eqb-true id c own) ∙ asked l c log h up before)
-            ∙ next_mode log h id exists n words at
-            ∙ ap mode_by (let e : suc n ≡ length (runs_of c up ++ words ∷ []) =
-            omega (arith, length-append (runs_of c up) (words ∷ [])) in e)
-        | false ↦ λ own p. mode_other l c id m words up own ∙ asked l c log h up p
+            let by = runner l up id words in
+            let has : HasBy s.mode n by.mode =
+            subst (λ d. HasBy s.mode n (mode l d up)) (sym (eqb-true id c own))
+            (asked l c log h up before) in
+            let count : suc n ≡ length (runs_of c up ++ words ∷ []) =
+            omega (arith, length-append (runs_of c up) (words ∷ [])) in
+            subst (λ k. HasBy s.mode k (mode l c (Run id words m ∷ up))) count
+            (subst (HasBy s.mode (suc n)) (sym (mode_own l c id m words up own))
+            (next_settings log h by n words at has))
+        | false ↦ λ own p.
+            subst (HasBy s.mode (length (runs_of c up))) (sym (mode_other l c id m words up own))
+            (asked l c log h up p)
       ] refl p

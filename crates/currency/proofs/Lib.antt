@@ -9,6 +9,7 @@ pub mod Replies
 pub mod Gots
 pub mod Ahead
 pub mod Asked
+pub mod Marks
 pub mod Since
 pub mod Voids
 pub mod Placed

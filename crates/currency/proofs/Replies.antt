@@ -1,6 +1,7 @@
 -- What is no push of what was sent to a connection is the replies to its commands, in order.
 use Rattle.std.proofs.Common.{◌≡◌, ◌+◌, ℕ, List, [], ◌∷◌, ◌++◌, length, Bool, true, false, cond}
-use Rattle.std.proofs.Common.{refl, ap, ◌∙◌, append-nil, Result, Option, Some, None, arith}
+use Rattle.std.proofs.Common.{refl, ap, ◌∙◌, append-nil, Result, Ok, Err, Option, Some, None}
+use Rattle.std.proofs.Common.{arith}
 use Rattle.std.specs.Prelude.{◌==◌}
 use Rattle.std.specs.List.{filter}
 use Rattle.std.proofs.lemmas.List.Elements.{filter-append}
@@ -9,22 +10,25 @@ use Rattle.resp_value.specs.declared.value.Value.{Value}
 use Rattle.resp_value.specs.declared.value.Proto.{Proto}
 use Rattle.command_words.specs.declared.command.Command.{Command}
 use Rattle.command_words.specs.declared.command.WordFault.{WordFault}
+use Rattle.command_words.specs.Effect.{Effect}
+use Rattle.command_words.specs.Effects.{has_row}
 use Rattle.command_words.specs.Space.{Space}
 use Rattle.command_words.specs.Words.{reading}
 use Rattle.track_modes.specs.declared.fault.ModeFault.{ModeFault}
 use Rattle.serial_model.specs.declared.history.Limits.{Limits}
 use Rattle.serial_model.specs.declared.history.Entry.{Entry}
 use Rattle.serial_model.specs.declared.history.Entry.TheVariants.{Admit, Run, Tick, Take, Close}
-use Rattle.serial_model.specs.Modes.{Runner, accepted, hello_reply, is_stopping}
+use Rattle.serial_model.specs.Modes.{Runner, accepted, hello_reply, pong}
 use Rattle.serial_model.specs.Tracking.{Invalidation, group}
 use Rattle.serial_model.specs.State.{is_live}
 use Rattle.serial_model.specs.Actions.{Action, End, Message, Sending, replies, to_one}
 use Rattle.serial_model.specs.Plain.{pushed, pushes, tests_before, tests_then, told_then}
-use Rattle.serial_model.specs.History.{IsLegal, effect_in, effect_of, made, ran, ran_over}
-use Rattle.serial_model.specs.History.{run_action, runs_on, sends, sent, sent_to, served, state}
+use Rattle.serial_model.specs.History.{IsLegal, effect_in, effect_of, is_quit, is_served, made}
+use Rattle.serial_model.specs.History.{ran, ran_over, run_action, runs_on, sends, sent, sent_to}
+use Rattle.serial_model.specs.History.{served, state}
 use Rattle.serial_model.proofs.PlainActions.{run_sends, tick_sends}
 use Rattle.serial_model.proofs.Tables.{sent_to-append}
-use Rattle.serial_model.proofs.ServedRows.{served_cases, data_effect, none_ends}
+use Rattle.serial_model.proofs.ServedRows.{served_cases, data_effect, none_stops}
 use Rattle.currency.specs.Links.{is_push, is_reply_sent}
 use Rattle.currency.proofs.PushReplies.{no_push}
 
@@ -38,11 +42,27 @@ accepted_no_push : (fault : Option ModeFault) → is_push (accepted fault) ≡ f
 unfolding is_push
 accepted_no_push fault = grind arith
 
-effect_no_push : (by : Runner) (words : List (List ℕ)) (read : Result Command WordFault)
-    (space : Space) (m : ℕ) → is_push (effect_of by words (served read) space m).reply ≡ false
+pong_no_push : (text : Option (List ℕ)) → is_push (pong text) ≡ false
 unfolding is_push
-effect_no_push by words read space m =
-    grind (arith, served_cases, is_push, hello_no_push, accepted_no_push, data_effect, no_push)
+pong_no_push text = grind arith
+
+module _ (by : Runner) (words : List (List ℕ)) (space : Space) (m : ℕ) where
+  own_no_push : (c : Command) → is_served c ≡ true → has_row c ≡ false
+      → is_push (effect_of by words (Ok c) space m).reply ≡ false
+  unfolding is_push
+  own_no_push c is none = grind (arith, hello_no_push, accepted_no_push, pong_no_push)
+
+  fault_no_push : (f : WordFault) → is_push (effect_of by words (Err f) space m).reply ≡ false
+  unfolding is_push
+  fault_no_push f = refl
+
+  effect_no_push : (read : Result Command WordFault)
+      → is_push (effect_of by words (served read) space m).reply ≡ false
+  effect_no_push =
+      served_cases (λ r. is_push (effect_of by words r space m).reply ≡ false) own_no_push
+      (λ c row. ap (λ (e : Effect). is_push e.reply) (data_effect by words c space m row)
+      ∙ (no_push c space m row).is)
+      fault_no_push
 
 pub reply_no_push : (l : Limits) (past : List Entry) (id : ℕ) (words : List (List ℕ)) (m : ℕ)
     → is_push (ran l past id words m).reply ≡ false
@@ -63,8 +83,7 @@ reply_to l past id words moment =
 pub reply_some : (l : Limits) (past : List Entry) (id : ℕ) (words : List (List ℕ)) (m : ℕ)
     → (effect_in (state l past) id words m).reply ≡ Some (ran l past id words m).reply
 reply_some l past id words m =
-    ap (λ e. cond (is_stopping e) None (Some (ran l past id words m).reply))
-    (none_ends (reading words))
+    ap (λ b. cond b None (Some (ran l past id words m).reply)) (none_stops (reading words))
 
 pub reply_is : (l : Limits) (past : List Entry) (id : ℕ) (words : List (List ℕ)) (m : ℕ)
     → replies (run_action id words m (state l past)) ≡ (id, reply_to l past id words m) ∷ []
@@ -100,6 +119,12 @@ reply_kept : (b : Bool) (n : ℕ) (p : Proto) (v : Value) (ss : List (ℕ × Sen
 unfolding is_reply_sent
 reply_kept b n p v ss h none = grind (arith, common_steps)
 
+-- no end is a reply
+end_no_reply : (n c id : ℕ) (b : Bool)
+    → filter is_reply_at (sent_to n c (cond b ((id, End) ∷ []) [])) ≡ []
+unfolding is_reply_sent
+end_no_reply n c id b = grind (arith, common_steps)
+
 -- what a Run of a connection that has not ended sends, in order
 module _ (l : Limits) (past : List Entry) (id : ℕ) (words : List (List ℕ)) (m : ℕ) where
   abbrev t : Action
@@ -111,12 +136,16 @@ module _ (l : Limits) (past : List Entry) (id : ℕ) (words : List (List ℕ)) (
   abbrev pub late : List (ℕ × Sending)
   late = pushes (tests_then t (state l past)) (told_then l t (state l past))
 
+  -- a connection that quits is sent its end last
+  abbrev pub ending : List (ℕ × Sending)
+  ending = cond (is_quit words) ((id, End) ∷ []) []
+
   pub run_sends_are : runs_on l past id ≡ true
       → sends l (Run id words m) (state l past)
-      ≡ (early ++ (id, reply_to l past id words m) ∷ []) ++ late
+      ≡ ((early ++ (id, reply_to l past id words m) ∷ []) ++ late) ++ ending
   run_sends_are on =
       run_sends l past id words m on
-      ∙ ap (λ x. (early ++ x) ++ late) (reply_is l past id words m)
+      ∙ ap (λ x. ((early ++ x) ++ late) ++ ending) (reply_is l past id words m)
 
 run_reply : (l : Limits) (n c : ℕ) (past : List Entry) (id : ℕ) (words : List (List ℕ)) (m : ℕ)
     → runs_on l past id ≡ true
@@ -132,6 +161,7 @@ run_reply l n c past id words m on =
       filter-append,
       reply_kept,
       reply_no_push,
+      end_no_reply,
     )
 
 tick_reply : (l : Limits) (n c : ℕ) (past : List Entry) (m : ℕ)
@@ -146,11 +176,6 @@ add_none : (l : Limits) (c : ℕ) (e : Entry) (past : List Entry)
     → filter is_reply_at (sent l c (e ∷ past)) ≡ replies_of l c past
 add_none l c e past none before = grind (arith, filter-append, append-nil)
 
-close_none : (n c id : ℕ) (live : Bool)
-    → filter is_reply_at (sent_to n c (cond live ((id, End) ∷ []) [])) ≡ []
-unfolding is_reply_sent
-close_none n c id live = grind (arith, common_steps)
-
 out_of : (b : Bool) (xs ys : List (ℕ × Sending)) → xs ++ cond b ys [] ≡ cond b (xs ++ ys) xs
 out_of b xs ys = grind (arith, common_steps)
 
@@ -163,7 +188,7 @@ replies_are_of_runs l c (Tick m ∷ past) h =
     (replies_are_of_runs l c past h.2)
 replies_are_of_runs l c (Close id ∷ past) h =
     add_none l c (Close id) past
-    (close_none (length past + 1) c id (is_live ((state l past).standing id)))
+    (end_no_reply (length past + 1) c id (is_live ((state l past).standing id)))
     (replies_are_of_runs l c past h.1)
 replies_are_of_runs l c (Run id words m ∷ past) h =
     filter-append is_reply_at (sent l c past)

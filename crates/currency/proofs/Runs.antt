@@ -150,6 +150,58 @@ module _ (c : ℕ) where
   runs_older up past o =
       subst (λ p. IsPrefix (runs_of c up) (runs_of c p)) o.is (runs_more o.newer up)
 
+  -- and so are the entries at which it ran
+  entries_more : (newer up : List Entry)
+      → IsPrefix (run_entries c up) (run_entries c (newer ++ up))
+  entries_more [] up = ([], append-nil (run_entries c up))
+  entries_more (Run id words moment ∷ newer) up =
+      let r = entries_more newer up in
+      let n = length (newer ++ up) + 1 in
+      elim (id == c) as (λ b. IsPrefix (run_entries c up)
+      (cond b (run_entries c (newer ++ up) ++ n ∷ []) (run_entries c (newer ++ up)))) [
+        | true ↦ (
+          r.0 ++ n ∷ [],
+          sym (append_assoc (run_entries c up) r.0 (n ∷ [])) ∙ ap (λ ns. ns ++ n ∷ []) r.1,
+        )
+        | false ↦ r
+      ]
+  entries_more (e ∷ newer) up = entries_more newer up
+
+  entries_older : (up past : List Entry) → Older up past
+      → IsPrefix (run_entries c up) (run_entries c past)
+  entries_older up past o =
+      subst (λ p. IsPrefix (run_entries c up) (run_entries c p)) o.is (entries_more o.newer up)
+
+  -- the place of an own Run
+  pub record RunsThere (past : List Entry) (words : List (List ℕ)) (p : ℕ) : Type 0 where
+    pub place : ℕ
+    pub entry : slice_get (run_entries c past) place ≡ Some p
+    pub words_are : slice_get (runs_of c past) place ≡ Some words
+
+  pub runs_there : (id : ℕ) (words : List (List ℕ)) (m : ℕ) (up past : List Entry)
+      → (id == c) ≡ true → Older (Run id words m ∷ up) past
+      → RunsThere past words (length up + 1)
+  runs_there id words m up past own o =
+      let e = entries_older (Run id words m ∷ up) past o in
+      let r = runs_older (Run id words m ∷ up) past o in
+      let n = length up + 1 in
+      let place = length (runs_of c up) in
+      let last_entry : slice_get (run_entries c (Run id words m ∷ up)) place ≡ Some n =
+      ap (λ b. slice_get (cond b (run_entries c up ++ n ∷ []) (run_entries c up)) place) own
+      ∙ ap (slice_get (run_entries c up ++ n ∷ [])) (sym (runs_count up))
+      ∙ get_last (run_entries c up) n in
+      let last_words : slice_get (runs_of c (Run id words m ∷ up)) place ≡ Some words =
+      ap (λ b. slice_get (cond b (runs_of c up ++ words ∷ []) (runs_of c up)) place) own
+      ∙ get_last (runs_of c up) words in record {
+        place = place;
+        entry =
+            ap (λ ns. slice_get ns place) (sym e.1)
+            ∙ get_front (run_entries c (Run id words m ∷ up)) e.0 place n last_entry;
+        words_are =
+            ap (λ ws. slice_get ws place) (sym r.1)
+            ∙ get_front (runs_of c (Run id words m ∷ up)) r.0 place words last_words;
+      }
+
   -- ---- the Run of a place
 
   pub record RanAt (past : List Entry) (place p : ℕ) : Type 0 where

@@ -1,52 +1,39 @@
--- From the run of an open fetch on the mode of its connection is the one that was asked for.
-use Rattle.std.proofs.Common.{◌≡◌, ◌+◌, ◌-◌, ◌≤◌, ℕ, List, ◌∷◌, length, true}
-use Rattle.std.proofs.Common.{ap, ◌∙◌, arith, Some}
-use Rattle.std.proofs.Common.{append_assoc, length-append}
+-- From the run of an open fetch on its connection has the protocol and the tracking that were asked
+-- for.
+use Rattle.std.proofs.Common.{◌≡◌, ◌+◌, ◌-◌, ◌≤◌, ℕ, List, ◌∷◌, length}
+use Rattle.std.proofs.Common.{ap, arith, Some, length-append}
 use Rattle.std.proofs.lemmas.Bool.{eqb-true}
 use Rattle.resp_value.specs.Lists.{IsPrefix}
 use Rattle.resp_value.specs.declared.value.Proto.TheVariants.{Three}
-use Rattle.track_modes.specs.ModeState.{ModeState, new_mode}
 use Rattle.serial_model.specs.declared.history.Limits.{Limits}
 use Rattle.serial_model.specs.declared.history.Entry.{Entry}
 use Rattle.serial_model.specs.declared.history.Entry.TheVariants.{Run}
 use Rattle.serial_model.specs.History.{runs_of, mode}
 use Rattle.serial_model.specs.History.{IsLegal}
-use Rattle.serial_model.specs.Plain.{plain_tracking}
 use Rattle.shared_cache.specs.declared.log.Wire.TheVariants.{Main}
 use Rattle.shared_cache.specs.declared.log.LogEntry.{LogEntry}
-use Rattle.shared_cache.specs.ClientFields.{IsServed}
 use Rattle.command_words.specs.Queries.{key_of}
 use Rattle.shared_cache.specs.Log.{steps_of, handshake_length, caching_on_for}
 use Rattle.shared_cache.specs.Held.{commands, open_fetch, read_lead}
 use Rattle.shared_cache.proofs.Led.{led_some}
 use Rattle.shared_cache.specs.Laws.{LegalLog}
 use Rattle.shared_cache.proofs.FetchLaws.{open_was_sent}
-use Rattle.currency.specs.Links.{Client, Meet, run_of}
+use Rattle.currency.specs.Links.{Client, IsKeyMode, Meet, run_of}
 use Rattle.currency.proofs.Wires.{has_main}
 use Rattle.currency.proofs.Runs.{Older, older_tail, older_within}
 use Rattle.currency.proofs.Runs.{runs_older, RanAt, ran_at}
-use Rattle.currency.proofs.Handshake.{asked, mode_by}
-
--- on the third protocol, tracking without options
-abbrev pub asked_mode : ModeState
-asked_mode = record new_mode { proto = Three; tracking = plain_tracking true }
-
-by_two : (n : ℕ) → 2 ≤ n → mode_by n ≡ asked_mode
-unfolding mode_by
-by_two n le = grind arith
+use Rattle.currency.proofs.Handshake.{Has, asked, asked_tracking, by_two}
+use Rattle.currency.proofs.Lists.{prefix_more}
 
 prefix_le : {A : Type 0} (xs ys : List A) → IsPrefix xs ys → length xs ≤ length ys
 prefix_le xs ys p = omega (arith, length-append xs p.0, ap length p.1)
-
-prefix_more : {A : Type 0} (xs ys zs : List A) → IsPrefix xs ys → IsPrefix ys zs → IsPrefix xs zs
-prefix_more xs ys zs p q = grind (arith, append_assoc)
 
 more_length : (e : Entry) (up all : List Entry) → length up + 1 ≤ length all
     → length (e ∷ up) ≤ length all
 more_length e up all h = omega (arith, h)
 
 module _ (l : Limits) (x : Client) (past : List Entry) (log : List LogEntry)
-    (served : IsServed x.setup.mode) (legal : IsLegal l past) (legal_log : LegalLog x.setup log)
+    (key_mode : IsKeyMode x.setup.mode) (legal : IsLegal l past) (legal_log : LegalLog x.setup log)
     (meet : Meet l x past log) where
   pub ran_older : (up : List Entry) → Older up past
       → IsPrefix (runs_of (x.id Main) up) (commands x.setup Main log)
@@ -63,7 +50,7 @@ module _ (l : Limits) (x : Client) (past : List Entry) (log : List LogEntry)
     number_least =
         let w = open_was_sent x.setup log n q fetch in
         let two : handshake_length x.setup.mode ≡ 2
-        = ap (λ p. length (steps_of Main x.setup.mode.shape p)) served.proto in
+        = ap (λ p. length (steps_of Main x.setup.mode.shape p)) key_mode.link.proto in
         omega (
           arith,
           two,
@@ -72,12 +59,13 @@ module _ (l : Limits) (x : Client) (past : List Entry) (log : List LogEntry)
               (caching_on_for x.setup.mode w.sooner (key_of q))) q,
         )
 
-    -- from the run on, and just before it, the connection is on the third protocol and tracks
+    -- from the run on, and just before it, the connection is on the third protocol and tracks as it
+    -- was asked to
     pub settled : (up : List Entry) → Older up past → 2 ≤ length (runs_of (x.id Main) up)
-        → mode l (x.id Main) up ≡ asked_mode
+        → Has Three (asked_tracking x.setup.mode) (mode l (x.id Main) up)
     settled up o two =
-        asked x.setup served l (x.id Main) log legal_log up (ran_older up o)
-        ∙ by_two (length (runs_of (x.id Main) up)) two
+        by_two x.setup.mode (length (runs_of (x.id Main) up)) (mode l (x.id Main) up) two
+        (asked x.setup key_mode l (x.id Main) log legal_log up (ran_older up o))
 
     -- the fetch's own Run, with the connection's id
     pub own : Older (Run (x.id Main) r.words r.moment ∷ r.up) past

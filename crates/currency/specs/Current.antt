@@ -16,13 +16,13 @@ use Rattle.shared_cache.specs.declared.log.Wire.{Wire}
 use Rattle.shared_cache.specs.declared.log.Wire.TheVariants.{Main}
 use Rattle.shared_cache.specs.declared.log.LogEntry.{LogEntry}
 use Rattle.shared_cache.specs.declared.entry.CacheEntry.{CacheEntry}
-use Rattle.shared_cache.specs.ClientFields.{IsServed}
 use Rattle.shared_cache.specs.Notices.{invalidates}
 use Rattle.shared_cache.specs.Held.{held}
 use Rattle.shared_cache.specs.Laws.{Every, LegalLog, gots}
 use Rattle.wire_currency.specs.Fetch.{Fetch}
 use Rattle.wire_currency.specs.Current as wires
-use Rattle.currency.specs.Links.{Client, HasWire, Meet, run_of, wires_of, traffic_of, up_to}
+use Rattle.currency.specs.Links.{Client, HasWire, IsKeyMode, Meet, run_of, wires_of, traffic_of}
+use Rattle.currency.specs.Links.{up_to}
 use Rattle.currency.specs.Points.{names_key}
 
 -- a value is the answer to a query over the past up to an entry, as the client's protocol carries
@@ -87,5 +87,5 @@ pub record HasPoint (l : Limits) (x : Client) (past : List Entry) (log : List Lo
 abbrev pub Currency : Type 0
 Currency =
     (l : Limits) (x : Client) (past : List Entry) (log : List LogEntry)
-    → IsServed x.setup.mode → IsLegal l past → LegalLog x.setup log → Meet l x past log
+    → IsKeyMode x.setup.mode → IsLegal l past → LegalLog x.setup log → Meet l x past log
     → Every (λ h. IsCurrent l x past log h × HasPoint l x past log h) (held x.setup log)

@@ -5,6 +5,7 @@
 ghost use Rattle.currency.specs.CompleteExactly.{CompletesExactly};
 ghost use Rattle.currency.specs.Current.{Currency};
 
+use command_words::law_signals_are_written;
 use serial_model::{law_before_the_reply, law_change_is_signalled};
 
 /// For every legal history and every legal log that meet: each held entry is current, and a hit on
@@ -14,6 +15,7 @@ pub fn law_currency()
 {
     law_change_is_signalled();
     law_before_the_reply();
+    law_signals_are_written();
 }
 
 /// For every history and every log that meet: a link is complete up to the entry before the first

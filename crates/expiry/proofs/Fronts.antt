@@ -6,6 +6,7 @@ use Rattle.std.proofs.lemmas.Bool.Decides.{nat_tests}
 use Prim.Native.Nat.{zero, suc}
 use Rattle.expiry.specs.declared.index.Deadline.{Deadline}
 use Rattle.expiry.specs.Index.{comes_before, is_same, with, is_due, due, left, first_of}
+use Rattle.expiry.specs.Blocks.{is_nil}
 use Rattle.expiry.specs.Order.{IsBeforeAll, IsOrdered}
 use Rattle.expiry.specs.Places.{IsPlaceFor, IsDueFront, deadline_at}
 
@@ -88,3 +89,13 @@ module _ (moment : ℕ) where
   pub none_first : (ds : List Deadline) → slice_get ds 0 ≡ None → None ≡ first_of (due moment ds)
   none_first [] none = refl
   none_first (e ∷ es) none = absurd cc
+
+-- a list has a first deadline or none at all
+pub nil_where_none : (ds : List Deadline) → slice_get ds 0 ≡ None → true ≡ is_nil ds
+nil_where_none [] none = refl
+nil_where_none (d ∷ ds) none = absurd cc
+
+pub some_first : (ds : List Deadline) (d : Deadline) → slice_get ds 0 ≡ Some d
+    → false ≡ is_nil ds
+some_first [] d first = absurd cc
+some_first (e ∷ es) d first = refl

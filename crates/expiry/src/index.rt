@@ -2,7 +2,7 @@
 ghost use Rattle.std.specs.Prelude.{◌≡◌, ◌<◌, ℕ, true, [], length, OnOk, OnErr, option_map};
 ghost use Rattle.expiry.specs.Index.{comes_before, is_same, has, with, without, is_due};
 ghost use Rattle.expiry.specs.Index.{due, left, first_of};
-ghost use Rattle.expiry.specs.Blocks.{begins_due, block_at, joined};
+ghost use Rattle.expiry.specs.Blocks.{begins_due, block_at, is_nil, joined};
 ghost use Rattle.expiry.specs.Order.{IsOrdered};
 
 use super::block::Block;
@@ -70,6 +70,16 @@ impl DeadlineIndex {
         DeadlineIndex {
             alloc,
             blocks: Vec::new(alloc),
+        }
+    }
+
+    /// Whether there are no deadlines.
+    pub fn is_empty(&self) -> bool
+        ensures { result ≡ is_nil self.now }
+    {
+        match blocks::first(&self.blocks) {
+            Some(_) => false,
+            None => true,
         }
     }
 

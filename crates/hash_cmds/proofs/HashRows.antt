@@ -116,10 +116,3 @@ pub pushed : {A B : Type 0} (f : A → B) (xs : List A) (i : ℕ) (x : A) (old n
     → new ≡ old ++ y ∷ [] → y ≡ f x → old ≡ map f (take i xs) → slice_get xs i ≡ Some x
     → new ≡ map f (take (i + 1) xs)
 pushed f xs i x old new y is same so_far at = grind (arith, next, add-one)
-
--- the hash of a key after its field took a sum
-pub sum_put : (key field value : List ℕ) (words : List (List ℕ)) (fs : Pairs) (space new : Space)
-    → words ≡ field ∷ value ∷ [] → HasFields (content_at key space) fs
-    → HashBecomes key (set_all (in_turn words)) space new
-    → new ≡ put_fields key (field_set field value fs) space
-sum_put key field value words fs space new is has becomes = grind (arith, put-field_set)

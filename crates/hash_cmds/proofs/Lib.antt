@@ -1,2 +1,3 @@
 mod HashRows
 mod TakenFields
+mod Counting

@@ -1,13 +1,10 @@
 -- What a change of the fields under a key gives: a missing key reads as a hash without fields.
-use Rattle.std.specs.Prelude.{◌≡◌, ◌-◌, ℕ, ℤ, List, [], ◌∷◌, Bool, true, false, Option, Some, None}
+use Rattle.std.specs.Prelude.{◌≡◌, ◌-◌, ℕ, List, [], ◌∷◌, Bool, true, false, Option, Some, None}
 use Rattle.std.specs.Prelude.{length}
 use Rattle.std.specs.FinMap.{insert}
 use Rattle.command_words.specs.Space.{Content, Text, Fields, Held, Space}
 use Rattle.command_words.specs.Space.{content_at, deadline_at}
-use Rattle.command_words.specs.Effect.{number_in}
-use Rattle.command_words.specs.Hashes.{Pairs, field_get, put_fields}
-use Rattle.command_rows.specs.declared.integers.Addition.{Addition}
-use Rattle.command_rows.specs.Additions.{IsAddition}
+use Rattle.command_words.specs.Hashes.{Pairs, put_fields}
 
 abbrev pub is_text : Option Content → Bool
 is_text None = false
@@ -69,9 +66,3 @@ IsDropped key old new =
 abbrev pub held_back : List ℕ → Option Held → Space → Space
 held_back key None space = space
 held_back key (Some held) space = insert space key held
-
--- the number was added to the field of the key
-abbrev pub IsAdditionIn : List ℕ → List ℕ → ℤ → Addition → Space → Type 0
-IsAdditionIn key field n found space =
-    (fs : Pairs) × HasFields (content_at key space) fs
-    × IsAddition (number_in (field_get field fs)) n found

@@ -3,8 +3,9 @@ ghost use Rattle.std.specs.Prelude.{◌≡◌, true};
 ghost use Rattle.command_words.specs.Effects.{effect, is_hash};
 ghost use Rattle.command_rows.specs.Rows.{IsRow};
 
+use super::numbers::hincrby;
 use super::reads::{hexists, hget, hgetall, hkeys, hlen, hmget, hvals};
-use super::writes::{hdel, hincrby, hset};
+use super::writes::{hdel, hset};
 use command_rows::replied;
 use command_words::{Command, Done};
 use keyspace::Keyspace;

@@ -1,18 +1,16 @@
-//! The commands that write hashes: HSET, HDEL and HINCRBY.
+//! The commands that write hashes: HSET and HDEL.
 ghost use Rattle.std.specs.Prelude.{◌≡◌, IfOk, OnOk, OnErr, option_map};
-ghost use Rattle.command_words.specs.Hashes.{hset_effect, hdel_effect, hincrby_effect};
+ghost use Rattle.command_words.specs.Hashes.{hset_effect, hdel_effect};
 ghost use Rattle.command_rows.specs.Rows.{IsRow};
 ghost use Rattle.keyspace.specs.Places.{all_placed, with_placed_of};
 ghost use Rattle.keyspace.specs.Plain.{held_of};
-ghost use Rattle.hash_cmds.specs.Changed.{IsAdditionIn, held_back};
+ghost use Rattle.hash_cmds.specs.Changed.{held_back};
 
 use super::change::{holds_text, set_fields, take_empty, take_under};
-use command_rows::{
-    Addition, add, decimal, hash_not_integer, only, overflow, replied, wrong_type, wrote,
-};
+use command_rows::{only, replied, wrong_type, wrote};
 use command_words::Done;
-use keyspace::{Content, Held, Keyspace, Placed};
-use resp_value::{NoMemory, Octets, Value, Words};
+use keyspace::{Held, Keyspace, Placed};
+use resp_value::{NoMemory, Octets, Value};
 use std::alloc::Global;
 
 pub(crate) fn hset(
@@ -73,53 +71,4 @@ pub(crate) fn hdel(
 {
     let (done, _taken, _held) = take_fields(alloc, space, key, names)?;
     Ok(done)
-}
-
-/// Writes what an addition to the field of the key gave.
-fn put_addition(
-    alloc: Global,
-    space: &mut Keyspace,
-    key: &[u8],
-    field: &[u8],
-    number: &i64,
-    found: Addition,
-) -> Result<Done, NoMemory>
-    requires { IsAdditionIn key.now field.now number.now found space.old }
-    ensures { IsRow (hincrby_effect key.now field.now number.now space.old)
-        result space.old space.new }
-{
-    match found {
-        Addition::NoInteger => Ok(replied(alloc, hash_not_integer(alloc)?)),
-        Addition::Overflow => Ok(replied(alloc, overflow(alloc)?)),
-        Addition::Sum(sum) => {
-            let keys = only(alloc, key)?;
-            let mut words = Words::new(alloc);
-            words.push(Octets::from_slice(alloc, field)?)?;
-            words.push(decimal(alloc, &sum)?)?;
-            set_fields(alloc, space, key, words.as_slice())?;
-            Ok(wrote(Value::Number(sum), keys))
-        }
-    }
-}
-
-pub(crate) fn hincrby(
-    alloc: Global,
-    space: &mut Keyspace,
-    key: &[u8],
-    field: &[u8],
-    number: &i64,
-) -> Result<Done, NoMemory>
-    ensures { IsRow (hincrby_effect key.now field.now number.now space.old)
-        result space.old space.new }
-{
-    match space.get(key) {
-        None => put_addition(alloc, space, key, field, number, add(None, number)),
-        Some(held) => match &held.content {
-            Content::Fields(fields) => {
-                let found = add(fields.get(field), number);
-                put_addition(alloc, space, key, field, number, found)
-            }
-            Content::Text(_) => Ok(replied(alloc, wrong_type(alloc)?)),
-        },
-    }
 }

@@ -4,10 +4,11 @@ use Rattle.std.proofs.Common.{◌∙◌}
 use Rattle.std.specs.Ordering.{nat_cmp, eq_by_cmp}
 use Rattle.std.specs.Cmp.Lexicographic.{slice_cmp, nat_list_cmp_total, texts_ties}
 use Rattle.std.specs.FinMap.{get, insert, get-insert, same_map}
+use Rattle.std.specs.Option.{option_map_or}
 use Rattle.std.specs.FinMap.{slice_cmp-IsAntisymmetric, nat_cmp-IsAntisymmetric}
 use Rattle.std.proofs.lemmas.Slice.Eq.{bytes_eq-Decides}
 use Rattle.command_words.specs.Space.{Content, Held, Space, content_at, deadline_at}
-use Rattle.keyspace.specs.Lending.{with_content}
+use Rattle.keyspace.specs.Lending.{with_content, with_held}
 
 module _ (key : List ℕ) (space : Space) where
   -- to put what is there changes nothing
@@ -33,3 +34,13 @@ module _ (key : List ℕ) (space : Space) where
   pub with_content-same : (had : Content) → content_at key space ≡ Some had
       → with_content key had space ≡ space
   with_content-same had = grind (arith, insert-same)
+
+  -- a key that is there holds another content or deadline
+  pub with_held-insert : (had held : Held) → Some had ≡ get space key
+      → with_held key held space ≡ insert space key held
+  with_held-insert had held at =
+      ap (λ r. option_map_or (λ h. insert space key held) r space) (sym at)
+
+  -- a key that holds what it holds
+  pub with_held-same : (had : Held) → Some had ≡ get space key → with_held key had space ≡ space
+  with_held-same had at = with_held-insert had had at ∙ insert-same had (sym at)

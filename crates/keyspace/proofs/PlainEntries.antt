@@ -1,12 +1,12 @@
 -- Look-ups and changes in a map with `Vec<u8>` keys, and in the list of plain pairs that it stands
 -- for.
-use Rattle.std.proofs.Common.{◌≡◌, ℕ, Bool, false, cond, List, [], ◌∷◌, Some}
+use Rattle.std.proofs.Common.{◌≡◌, ℕ, Bool, true, false, cond, List, [], ◌∷◌, Some}
 use Rattle.std.proofs.Common.{Vec, Global, map, refl, ap, sym, subst, ◌∙◌, ◌++◌, ◌+◌}
 use Rattle.std.proofs.Common.{drop, slice_get, zero, suc, arith}
 use Rattle.std.proofs.lemmas.List.{append_assoc, append-nil}
 use Rattle.std.proofs.lemmas.Slice.Eq.{bytes_eq-Decides}
 use Rattle.std.specs.List.{IsDistinct, AllByRecursion}
-use Rattle.std.specs.Map.{lookup, remove_entry, keys_of}
+use Rattle.std.specs.Map.{lookup, remove_entry, keys_of, set_value}
 use Rattle.std.specs.Str.{bytes_eq}
 use Rattle.indexmap.specs.IndexMap.{insert_entry}
 use Rattle.command_words.specs.Hashes.{field_get, field_set, field_remove, set_all}
@@ -37,6 +37,28 @@ pub insert-field : (k : Vec ℕ Global) (v : List ℕ) (es : Entries)
     → map plain (insert_entry same_name es k v) ≡ field_set k.items v (map plain es)
 insert-field k v [] = refl
 insert-field k v (e ∷ es) = grind (arith, map, insert-field k v es)
+
+-- a field that is there takes another value in its place
+written : (name v had : List ℕ) (es : Entries) → Some had ≡ lookup (is_named name) es
+    → map plain (set_value (is_named name) es v) ≡ field_set name v (map plain es)
+written name v had [] there = absurd cc
+written name v had (e ∷ es) there =
+    by (bytes_eq name e.0.items) refl (λ at. written name v had es at)
+  where
+    by : (b : Bool) → bytes_eq name e.0.items ≡ b
+        → (Some had ≡ lookup (is_named name) es
+        → map plain (set_value (is_named name) es v) ≡ field_set name v (map plain es))
+        → map plain (cond b ((e.0, v) ∷ es) (e ∷ set_value (is_named name) es v))
+        ≡ cond b ((e.0.items, v) ∷ map plain es) (plain e ∷ field_set name v (map plain es))
+    by true is rest = refl
+    by false is rest =
+        ap (λ r. plain e ∷ r)
+        (rest (there ∙ ap (λ b. cond b (Some e.1) (lookup (is_named name) es)) is))
+
+pub written-field : (name v had : List ℕ) (es new : Entries)
+    → new ≡ set_value (is_named name) es v → Some had ≡ lookup (is_named name) es
+    → map plain new ≡ field_set name v (map plain es)
+written-field name v had es new is there = ap (map plain) is ∙ written name v had es there
 
 -- after the first of the fields that are to be set in turn, the others are left
 pub set_first : (k : Vec ℕ Global) (v : List ℕ) (es new rest : Entries)

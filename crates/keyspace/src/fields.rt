@@ -14,6 +14,7 @@ use indexmap::IndexMap;
 use resp_value::{NoMemory, Octets};
 use std::alloc::Global;
 use std::marker::Model;
+use std::mem;
 
 /// The fields of a hash with their values; contracts see the list of pairs, whose names differ.
 #[derive(Drop)]
@@ -77,6 +78,23 @@ impl Fields {
         match self.table.get_index(place) {
             Some((field, value)) => Some((field.as_slice(), value)),
             None => None,
+        }
+    }
+
+    /// Gives the field this value, in its place, or last where it is new; the answer is the value
+    /// that it had. Its name is copied only where it is new.
+    pub fn put(&mut self, field: &[u8], value: Octets) -> Result<Option<Octets>, NoMemory>
+        ensures ok { OnOk result (self.new ≡ field_set field.now value self.old) }
+        ensures had { IfOk result (λ had. had ≡ field_get field.now self.old) }
+        ensures err { OnErr result (self.new ≡ self.old) }
+    {
+        match self.table.get_mut(field) {
+            Some(place) => Ok(Some(mem::replace(place, value))),
+            None => {
+                let name = Vec::from_slice(*self.table.allocator(), field)?;
+                let old = self.table.insert(name, value)?;
+                Ok(old)
+            }
         }
     }
 

@@ -1,13 +1,13 @@
 //! The keyspace, as a finite map from keys to what they hold.
-ghost use Rattle.std.specs.Prelude.{◌≡◌, ◌<◌, ◌^◌, OnOk, OnErr, IfOk, is_some, option_map};
+ghost use Rattle.std.specs.Prelude.{◌≡◌, ◌<◌, ◌^◌, [], OnOk, OnErr, IfOk, is_some, option_map};
 ghost use Rattle.std.specs.FinMap as finite;
 ghost use Rattle.std.specs.Borrow.{sem};
 ghost use Rattle.resp_value.specs.Tree.{in_turn};
-ghost use Rattle.command_words.specs.Space.{held_at, content_at, with_deadline};
+ghost use Rattle.command_words.specs.Space.{Text, held_at, content_at, with_deadline};
 ghost use Rattle.command_words.specs.Keys.{renamed};
 ghost use Rattle.command_words.specs.Strings.{put_all};
 ghost use Rattle.keyspace.specs.Plain.{held_of, content_of};
-ghost use Rattle.keyspace.specs.Lending.{lends_content};
+ghost use Rattle.keyspace.specs.Lending.{lends_content, lends_held, with_content};
 
 use super::copies::{copies_in_turn, insert_in_room};
 use super::fields::Fields;
@@ -15,6 +15,7 @@ use indexmap::IndexMap;
 use resp_value::{NoMemory, Octets};
 use std::alloc::Global;
 use std::marker::Model;
+use std::mem;
 
 /// What a key holds: a string or a hash.
 #[derive(Drop)]
@@ -103,14 +104,45 @@ impl Keyspace {
         }
     }
 
-    /// The key holds this, whatever it held.
+    /// What the key holds, for writing.
+    pub fn held_mut(&mut self, key: &[u8]) -> Option<&mut Held>
+        ensures* writes_back { sem 𝓛 (lends_held self.entry key.now result) }
+        ensures value { option_map (λ held. held_of held.now) result ≡ held_at key.now self.old }
+    {
+        match self.table.get_mut(key) {
+            Some(held) => Some(held),
+            None => None,
+        }
+    }
+
+    /// The key holds this, whatever it held. Its name is copied only where it is new.
     pub fn put(&mut self, key: &[u8], held: Held) -> Result<(), NoMemory>
         ensures ok { OnOk result (self.new ≡ finite.insert self.old key.now (held_of held)) }
         ensures err { OnErr result (self.new ≡ self.old) }
     {
-        let name = Vec::from_slice(*self.table.allocator(), key)?;
-        self.table.insert(name, held)?;
-        Ok(())
+        match self.table.get_mut(key) {
+            Some(place) => {
+                *place = held;
+                Ok(())
+            }
+            None => {
+                let name = Vec::from_slice(*self.table.allocator(), key)?;
+                self.table.insert(name, held)?;
+                Ok(())
+            }
+        }
+    }
+
+    /// What the key holds is moved out; an empty string with its deadline stands in its place.
+    pub fn hollow(&mut self, key: &[u8]) -> Option<Held>
+        ensures was { option_map held_of result ≡ held_at key.now self.old }
+        ensures now { self.new ≡ with_content key.now (Text []) self.old }
+    {
+        let empty = Octets::from_vec(Vec::new(*self.table.allocator()));
+        let held = self.table.get_mut(key)?;
+        let deadline = held.deadline;
+        let content = mem::replace(&mut held.content, Content::Text(empty));
+        Some(Held { content, deadline })
     }
 
     /// Each key holds this string without a deadline, keys and strings in turn.

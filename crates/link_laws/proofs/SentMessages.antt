@@ -1,10 +1,15 @@
 -- Each message that is sent is well-formed.
 use Rattle.std.proofs.Common.{◌≡◌, ℕ, List, [], ◌∷◌, ◌++◌, Bool, true, false, cond, Result, Ok, Err}
-use Rattle.std.proofs.Common.{None, Some, refl, sym, ap, subst, ◌∙◌, map, arith}
+use Rattle.std.proofs.Common.{Option, None, Some, refl, sym, ap, subst, ◌∙◌, map, arith, codes}
 use Rattle.resp_value.specs.declared.value.Proto.{Proto}
+use Rattle.resp_value.specs.Tree.{blob, trees_of}
 use Rattle.resp_value.specs.declared.value.Value.{Value}
+use Rattle.resp_value.specs.declared.value.Value.TheVariants.{Map}
 use Rattle.command_words.specs.declared.command.Command.{Command}
-use Rattle.command_words.specs.declared.command.Command.TheVariants.{Hello, ClientTracking}
+use Rattle.command_words.specs.declared.command.Command.TheVariants.{Ping, Echo, Hello, Reset, Quit}
+use Rattle.command_words.specs.declared.command.Command.TheVariants.{ClientId, ClientTracking}
+use Rattle.command_words.specs.declared.command.Command.TheVariants.{ClientCaching, ClientGetRedir}
+use Rattle.command_words.specs.declared.command.Command.TheVariants.{ClientTrackingInfo}
 use Rattle.command_words.specs.declared.command.WordFault.{WordFault}
 use Rattle.command_words.specs.declared.command.WordFault.TheVariants.{Arity}
 use Rattle.command_words.specs.Space.{Space}
@@ -15,11 +20,13 @@ use Rattle.track_modes.specs.declared.fault.ModeFault.TheVariants.{SwitchBcast, 
 use Rattle.track_modes.specs.declared.fault.ModeFault.TheVariants.{OptWithBcast, SwitchOpt}
 use Rattle.track_modes.specs.declared.fault.ModeFault.TheVariants.{Overlap, NotOpt, YesNeedsOptin}
 use Rattle.track_modes.specs.declared.fault.ModeFault.TheVariants.{NoNeedsOptout, NoMemory}
+use Rattle.track_modes.specs.Commands.{fault_at}
+use Rattle.track_modes.specs.ModeState.{ModeState, flags, prefixes_of}
 use Rattle.track_modes.specs.Texts.{mode_fault_text}
 use Rattle.serial_model.specs.declared.history.Limits.{Limits}
 use Rattle.serial_model.specs.declared.history.Entry.{Entry}
 use Rattle.serial_model.specs.declared.history.Entry.TheVariants.{Admit, Run, Tick, Take, Close}
-use Rattle.serial_model.specs.Modes.{Runner, is_stopping}
+use Rattle.serial_model.specs.Modes.{Runner, accepted, is_stopping, pong, tracking_info}
 use Rattle.serial_model.specs.Tracking.{Invalidation}
 use Rattle.serial_model.specs.State.{State, is_live, is_on}
 use Rattle.serial_model.specs.Actions.{Action, Sending, End, action_sends, ends, heard}
@@ -33,7 +40,7 @@ use Rattle.serial_model.specs.History.{tick_action}
 use Rattle.serial_model.proofs.PlainActions.{first, first_is, rest, rest_is, run_plain}
 use Rattle.serial_model.proofs.PlainActions.{states_are_plain, tick_plain}
 use Rattle.serial_model.proofs.Sendings.{heard-append}
-use Rattle.resp_laws.specs.Fronts.{Every}
+use Rattle.resp_laws.specs.Fronts.{AreWellFormed, Every}
 use Rattle.resp_laws.specs.Values.{IsPlain}
 use Rattle.link_laws.specs.Crossing.{IsReadable, SentIsWellFormed}
 use Rattle.link_laws.proofs.Plain.{plain_text, fault_plain}
@@ -55,12 +62,39 @@ mode_fault_plain YesNeedsOptin = plain_text (mode_fault_text YesNeedsOptin) refl
 mode_fault_plain NoNeedsOptout = plain_text (mode_fault_text NoNeedsOptout) refl
 mode_fault_plain NoMemory = tt
 
+accepted_good : (fault : Option ModeFault) → IsGood (accepted fault)
+accepted_good None p = plain_text (codes "OK") refl
+accepted_good (Some fault) p = mode_fault_plain fault
+
+pong_good : (text : Option (List ℕ)) → IsGood (pong text)
+pong_good None p = plain_text (codes "PONG") refl
+pong_good (Some text) p = tt
+
+blobs_good : (p : Proto) (words : List (List ℕ)) → AreWellFormed p (trees_of (map blob words))
+blobs_good p words = are_mapped blob p (λ w. tt) words
+
+info_good : (is_broken : Bool) (m : ModeState) → IsGood (Map (tracking_info is_broken m))
+info_good is_broken m p = (
+  tt,
+  blobs_good p (flags is_broken m),
+  (tt, tt, (tt, blobs_good p (prefixes_of m.tracking), tt)),
+)
+
 effect_of_good : (by : Runner) (words : List (List ℕ)) (r : Result Command WordFault)
     (space : Space) (moment : ℕ) → (r ≡ Err Arity → reading words ≡ Err Arity)
     → Replies (effect_of by words r space moment)
+effect_of_good by words (Ok (Ping text)) space m h = pong_good text
+effect_of_good by words (Ok (Echo text)) space m h = λ p. tt
 effect_of_good by words (Ok (Hello word)) space m h = grind (arith, plain_text)
+effect_of_good by words (Ok Reset) space m h = λ p. plain_text (codes "RESET") refl
+effect_of_good by words (Ok Quit) space m h = λ p. plain_text (codes "OK") refl
+effect_of_good by words (Ok ClientId) space m h = λ p. tt
 effect_of_good by words (Ok (ClientTracking options)) space m h =
-    grind (arith, plain_text, mode_fault_plain)
+    accepted_good (fault_at (ClientTracking options) by.target_exists by.mode)
+effect_of_good by words (Ok (ClientCaching is_yes)) space m h =
+    accepted_good (fault_at (ClientCaching is_yes) by.target_exists by.mode)
+effect_of_good by words (Ok ClientGetRedir) space m h = λ p. tt
+effect_of_good by words (Ok ClientTrackingInfo) space m h = info_good by.is_broken by.mode
 effect_of_good by words (Ok command) space m h = effect_good command space m
 effect_of_good by words (Err fault) space m h = grind (arith, fault_plain)
 

@@ -120,7 +120,7 @@ impl fmt::Display for Refusal<'_> {
             }
             Refusal::NothingThere => f.write_str("fewer bytes are there than it moves"),
             Refusal::Mode => f.write_str(
-                "no such client is served yet; one is `client X single 3 default CAPACITY`",
+                "no such client is served yet: it is single and 3, and default, optin or optout",
             ),
             Refusal::Control => f.write_str(
                 "a client sends no command that changes how the server serves it, as HELLO does",
@@ -216,7 +216,10 @@ fn form_of(kind: &[u8]) -> Option<&'static str> {
         b"raw" => Some("raw R"),
         b"say" => Some("say R WORD.., each word in its printed form"),
         b"bytes" => Some("bytes R TEXT, the text in its printed form"),
-        b"client" => { Some("client X single 3 default CAPACITY, the capacity from 1 to 1000000") }
+        b"client" => Some(
+            "client X single 3 MODE CAPACITY [noloop], the mode default, optin or optout, and the \
+             capacity from 1 to 1000000",
+        ),
         b"out" => Some("out L [N]"),
         b"serve" => Some("serve L [N]"),
         b"send" => Some("send L [N]"),

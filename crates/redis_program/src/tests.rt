@@ -65,7 +65,7 @@ fn a_run_writes_the_transcript_and_the_last_line_of_its_status(
         ("worlds", "raw r\n", Status::Usage, "usage\n"),
         ("World", "raw r\n", Status::Usage, "usage\n"),
         ("world world", "raw r\n", Status::Usage, "usage\n"),
-        ("world --table-max 2", "raw r\n", Status::Usage, "usage\n"),
+        ("world --table-max 0", "raw r\n", Status::Usage, "usage\n"),
         ("world --out-max=2", "raw r\n", Status::Usage, "usage\n"),
         (
             "world --history-max 05",
@@ -77,6 +77,12 @@ fn a_run_writes_the_transcript_and_the_last_line_of_its_status(
         ("serve --port 0", "", Status::Usage, "usage\n"),
         (
             "serve --port 7000 --table-max 5",
+            "",
+            Status::NetFault,
+            "net-fault\n",
+        ),
+        (
+            "serve --port 7000 --out-max 5",
             "",
             Status::Usage,
             "usage\n",
@@ -241,6 +247,30 @@ fn a_run_writes_the_transcript_and_the_last_line_of_its_status(
         assert!(rt; reached == status, "{written}");
         assert!(rt; sink.bytes() == written.as_bytes(), "{written}");
     }
+    Ok(())
+}
+
+const THREE_KEYS: &str =
+    "raw r\nsay r HELLO 3\nsay r CLIENT TRACKING ON\nsay r MGET a b c\nflow r\n";
+
+/// Two of them are remembered.
+const THREE_KEYS_WRITTEN: &str =
+    "#1 admit r 1\n#2 run r HELLO 3\n#3 run r CLIENT TRACKING ON\n#4 run r MGET a b c\n\
+     #5 take r 194\nr < %7\\r\\n$6\\r\\nserver\\r\\n$5\\r\\nredis\\r\\n$7\\r\\nversion\\r\\n\
+     $5\\r\\n7.0.0\\r\\n$5\\r\\nproto\\r\\n:3\\r\\n$2\\r\\nid\\r\\n:1\\r\\n$4\\r\\nmode\\r\\n\
+     $10\\r\\nstandalone\\r\\n$4\\r\\nrole\\r\\n$6\\r\\nmaster\\r\\n$7\\r\\nmodules\\r\\n*0\\r\\n\
+     +OK\\r\\n*3\\r\\n_\\r\\n_\\r\\n_\\r\\n>2\\r\\n$10\\r\\ninvalidate\\r\\n*1\\r\\n\
+     $1\\r\\na\\r\\n\n";
+
+#[test]
+fn a_table_has_room_for_as_many_keys_as_the_words_say(rt: HostRuntime) -> Result<(), Fail> {
+    let alloc = rt.alloc();
+    let words = words_of(alloc, "world --table-max 2")?;
+    let mut source = MemorySource::new(text_bytes(alloc, THREE_KEYS)?, Vec::new(alloc));
+    let mut sink = MemorySink::new(alloc, 1000, Vec::new(alloc))?;
+    let reached = status_of(&rt, alloc, words.as_slice(), &mut source, &mut sink);
+    assert!(rt; reached == Status::Done);
+    assert_eq!(rt; sink.bytes(), THREE_KEYS_WRITTEN.as_bytes());
     Ok(())
 }
 
@@ -438,7 +468,7 @@ fn a_person_is_told_what_is_wrong_with_a_line(rt: HostRuntime) -> Result<(), Fai
         (
             b'5',
             "client x pair 3 default 1",
-            "no such client is served yet; one is `client X single 3 default CAPACITY`",
+            "no such client is served yet: it is single and 3, and default, optin or optout",
         ),
         (
             b'5',
@@ -501,6 +531,22 @@ fn serves<R: Threads + Wait + Eprint + Sync>(
     let clock = FixedClock { ms: 0 };
     let outcome = run(rt, alloc, words, source, sink, net, &clock);
     (outcome.status, outcome.served.is_some())
+}
+
+#[test]
+fn a_server_reports_a_connection_that_quits(rt: HostRuntime) -> Result<(), Fail> {
+    let alloc = rt.alloc();
+    let words = words_of(alloc, "serve --port 7000 --workers 1 --table-max=1")?;
+    let mut net = net_with(alloc, "PING\r\nQUIT\r\nGET a\r\n")?;
+    let mut source = MemorySource::new(Vec::new(alloc), Vec::new(alloc));
+    let mut sink = MemorySink::new(alloc, 1000, Vec::new(alloc))?;
+    let words = words.as_slice();
+    let (status, has_served) = serves(&rt, alloc, words, &mut source, &mut sink, &mut net);
+    assert!(rt; status == Status::Done);
+    assert!(rt; has_served);
+    let written = "connection 1 ended 2 requests 2\n";
+    assert_eq!(rt; sink.bytes(), written.as_bytes());
+    Ok(())
 }
 
 #[test]

@@ -38,7 +38,7 @@ use Rattle.redirect.specs.Routes.{route_of}
 use Rattle.serial_model.specs.declared.history.Entry.{Entry}
 use Rattle.serial_model.specs.Tracking.{ids_where}
 use Rattle.serial_model.specs.Each.{AllTo}
-use Rattle.serial_model.specs.Plain.{IsPlainMode, plain_tracking}
+use Rattle.serial_model.specs.Plain.{IsPlainMode, is_plain_tracking}
 use Rattle.serial_model.specs.Actions.{drops_told, is_passed, own_told, rows_grown, rows_then}
 use Rattle.serial_model.specs.Actions.{target_at, tracks}
 use Rattle.serial_model.specs.History.{protocol, runner_in, sends}
@@ -222,7 +222,7 @@ told_is_sent l e past c r proto key told h to =
     (sym (on_is l past c) ∙ (and_parts (is_on (state l past) c) _ told).0) to
     (told_is_due l e past c key told (or_left _ _ h))
 
--- ---- while no option of tracking is served
+-- ---- while no redirection is served
 
 -- one that is told has what all that are told have
 told_has : (P : ℕ → Type 0) (c : ℕ) (key : List ℕ) (told : List Invalidation) → AllTo P told
@@ -234,11 +234,16 @@ told_has P c key (i ∷ told) a h =
       | inr e ↦ told_has P c key told a.1 e
     ]
 
+plain_route : (t : Tracking) (c : ℕ) (p : Proto) (target : Option Peer)
+    → is_plain_tracking t ≡ true → track.is_on t ≡ true
+    → tracking_route t c p target ≡ direct_route c p
+plain_route t c p target plain on = grind arith
+
 pushes_to : (c : ℕ) (m : ModeState) (target : Option Peer) → IsPlainMode m
     → track.is_on m.tracking ≡ true → m.proto ≡ Three
     → receiver (route_of c target m) ≡ Some (c, Three)
 pushes_to c m target plain on three =
-    ap (λ t. receiver (tracking_route t c m.proto target)) (plain.tracking ∙ ap plain_tracking on)
+    ap receiver (plain_route m.tracking c m.proto target plain.tracking on)
     ∙ ap (λ p. receiver (direct_route c p)) three
 
 -- who is told behind the command tracks behind it

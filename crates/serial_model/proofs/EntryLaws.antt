@@ -1,7 +1,7 @@
 -- What each entry does, whatever the past: what it sends and what it changes.
 use Rattle.command_words.proofs.HeldAt.{at_without_due}
 use Rattle.std.proofs.Common.{◌≡◌, ◌+◌, ℕ, List, [], ◌∷◌, ◌++◌, true, false, length, Result}
-use Rattle.std.proofs.Common.{refl, sym, subst, arith}
+use Rattle.std.proofs.Common.{refl, sym, subst, ap, arith}
 use Rattle.command_words.specs.declared.command.WordFault.{WordFault}
 use Rattle.command_words.specs.declared.command.Command.{Command}
 use Rattle.command_words.specs.Effect.{Effect}
@@ -16,7 +16,7 @@ use Rattle.serial_model.specs.History.{state, sends, sent_to, sent, has_ended, I
 use Rattle.serial_model.specs.History.{effect_of, ran_over, ran, keyspace, is_admitted, expired}
 use Rattle.serial_model.specs.Laws.{AreOf, is_among}
 use Rattle.serial_model.proofs.DueKeys.{due_is_past}
-use Rattle.serial_model.proofs.ServedRows.{served_cases, data_effect, row_of}
+use Rattle.serial_model.proofs.ServedRows.{served_cases, data_effect, own_replied, row_of}
 use Rattle.serial_model.proofs.Streams.{IsLive, live}
 
 -- ---- what is sent
@@ -49,7 +49,8 @@ change_of : (by : Runner) (words : List (List ℕ)) (read : Result Command WordF
 change_of by words read space m q =
     served_cases (λ r. signals (effect_of by words r space m).signalled q ≡ false
     → held_at q (effect_of by words r space m).space ≡ held_at q space)
-    (λ word h. refl) (λ options h. refl)
+    (λ c is none h.
+    ap (λ (e : Effect). held_at q e.space) (own_replied by words c space m is none))
     (λ c is. subst (λ (e : Effect). signals e.signalled q ≡ false
     → held_at q e.space ≡ held_at q space)
     (sym (data_effect by words c space m is)) ((row_of c space m is).others_stay q))

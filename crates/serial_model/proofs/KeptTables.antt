@@ -3,7 +3,8 @@ use Rattle.std.proofs.Common.{◌-◌, ℕ, List, [], ◌∷◌, length, subst, 
 use Rattle.command_words.specs.declared.command.Signalled.{Signalled}
 use Rattle.command_words.specs.declared.command.Signalled.TheVariants.{Keys, All}
 use Rattle.track_table.specs.declared.table.Held.{Held}
-use Rattle.track_table.specs.Table.{with_keys, without_key, remembered, without_keys}
+use Rattle.track_table.specs.Table.{kept, remembered, with_keys, without_connection, without_key}
+use Rattle.track_table.specs.Table.{without_keys}
 use Rattle.track_table.specs.Order.{IsTable}
 use Rattle.track_table.proofs.Orders.{table_remembered, table_without_key, table_drop}
 use Rattle.track_table.proofs.Orders.{table_without_connection}
@@ -11,10 +12,11 @@ use Rattle.serial_model.specs.declared.history.Limits.{Limits}
 use Rattle.serial_model.specs.declared.history.Entry.{Entry}
 use Rattle.serial_model.specs.declared.history.Entry.TheVariants.{Admit, Run, Tick, Take, Close}
 use Rattle.serial_model.specs.Modes.{Memory, Remembers, Registers, Forgets}
+use Rattle.serial_model.specs.State.{for_each}
 use Rattle.serial_model.specs.Tracking.{without_signalled, remembering}
 use Rattle.serial_model.specs.History.{state, table, table_then, table_grown, expired, signals}
 use Rattle.serial_model.specs.History.{made}
-use Rattle.serial_model.proofs.StateSteps.{run_table, tick_table}
+use Rattle.serial_model.proofs.StateSteps.{run_ends, tick_table}
 
 none : IsTable []
 none = record { ordered = tt; held = tt }
@@ -42,6 +44,12 @@ table_remembering id (Remembers keys) rows h = table_with_keys id keys rows h
 table_remembering id (Registers ps) rows h = h
 table_remembering id Forgets rows h = table_without_connection id rows h
 
+table_left : (ids : List ℕ) (rows : List Held) → IsTable rows
+    → IsTable (for_each without_connection ids rows)
+table_left [] rows h = h
+table_left (id ∷ ids) rows h =
+    table_left ids (without_connection id rows) (table_without_connection id rows h)
+
 module _ (l : Limits) where
   pub grown_from : (past : List Entry) (id : ℕ) (words : List (List ℕ)) (moment : ℕ)
       → IsTable (table l past) → IsTable (table_grown l past id words moment)
@@ -58,7 +66,7 @@ module _ (l : Limits) where
   is_table (Admit id ∷ past) = is_table past
   is_table (Run id words moment ∷ past) =
       let grown = table_grown l past id words moment in
-      subst IsTable (sym (run_table l past id moment words))
+      table_left (run_ends l id words moment (state l past)) (kept l.table_max grown)
       (table_drop (length grown - l.table_max) grown
       (grown_from past id words moment (is_table past)))
   is_table (Tick moment ∷ past) =

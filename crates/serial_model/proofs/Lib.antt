@@ -14,6 +14,7 @@ pub mod Streams
 pub mod Standings
 pub mod Posts
 pub mod ModeSteps
+pub mod Marks
 pub mod QueryKeys
 pub mod EntryLaws
 pub mod ReadLaws

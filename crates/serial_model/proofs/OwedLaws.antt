@@ -1,14 +1,14 @@
 -- A remembered read is owed or told, and being told ends for a cause.
 use Rattle.std.proofs.Common.{◌≡◌, ◌-◌, ℕ, List, [], ◌∷◌, Bool, true, false, cond, length, drop}
 use Rattle.std.proofs.Common.{◌+◌}
-use Rattle.std.proofs.Common.{sym, ap, ◌∙◌, arith, inl, inr, Result}
+use Rattle.std.proofs.Common.{refl, sym, ap, ◌∙◌, arith, inl, inr, Result}
 use Rattle.std.specs.Prelude.{◌==◌, ◌&&◌, ◌||◌, not, nat_eq, nat_lt, nat_le}
 use Rattle.std.specs.List.{starts_with}
 use Rattle.std.specs.Ordering.{match_ordering}
 use Rattle.std.specs.declared.cmp.Ordering.{Ordering}
 use Rattle.std.specs.declared.cmp.Ordering.TheVariants.{Less, Equal, Greater}
 use Rattle.std.proofs.lemmas.Bool.{and_parts, and_from, or_left, or_right, or_cases, or_parts}
-use Rattle.std.proofs.lemmas.Bool.{both_ways}
+use Rattle.std.proofs.lemmas.Bool.{both_ways, cases_Bool, eq-eqb}
 use Rattle.std.proofs.lemmas.Bool.Decides.{nat_tests}
 use Rattle.std.proofs.lemmas.List.Folds.{list_any-append}
 use Rattle.command_words.specs.declared.command.Command.{Command}
@@ -40,7 +40,7 @@ use Rattle.serial_model.specs.Actions.{drops_told}
 use Rattle.serial_model.specs.History.{state, next, run_action, tick_action, mode, made, made_of}
 use Rattle.serial_model.specs.History.{runner}
 use Rattle.serial_model.specs.History.{IsLegal, served, table_grown, has_ended}
-use Rattle.serial_model.specs.History.{is_admitted, table_then}
+use Rattle.serial_model.specs.History.{is_admitted, is_quit, runs_on, table_then}
 use Rattle.serial_model.specs.Laws.{is_among, is_forgets, has_prefix_of, is_told_in, is_told}
 use Rattle.serial_model.specs.Laws.{is_due}
 use Rattle.serial_model.specs.Laws.{drops_key, signals_key, stops_tracking, ReadIsOwedOrTold}
@@ -51,7 +51,7 @@ use Rattle.serial_model.proofs.KeyHolders.{remembered_own, drop_tells, dropped_o
 use Rattle.serial_model.proofs.KeyHolders.{without_other}
 use Rattle.serial_model.proofs.KeyHolders.{with_keeps, without_keeps, some_held}
 use Rattle.serial_model.proofs.ServedRows.{served_is}
-use Rattle.serial_model.proofs.StateSteps.{run_table, run_stands}
+use Rattle.serial_model.proofs.StateSteps.{run_ended, run_stands, run_table_stays}
 use Rattle.serial_model.proofs.TableSize.{none_dropped, then_within}
 use Rattle.serial_model.proofs.ToldLaws.{has_row}
 
@@ -80,13 +80,13 @@ owed : (on after stays prefix due ended : Bool) → on ≡ true → after ≡ st
     → (((on && (after || prefix)) || due) || ended) ≡ true
 owed on after stays prefix due ended e f g = grind arith
 
--- a key that its connection remembers where keys are dropped is owed or told
-pub grown_is_owed : (l : Limits) (c m : ℕ) (words : List (List ℕ)) (past : List Entry)
-    (key : List ℕ) → IsLegal l (Run c words m ∷ past)
+-- where its connection goes on
+grown_stays : (l : Limits) (c m : ℕ) (words : List (List ℕ)) (past : List Entry) (key : List ℕ)
+    → runs_on l past c ≡ true → is_quit words ≡ false
     → has_id c (holders_of key (table_grown l past c words m)) ≡ true
     → (is_told l (Run c words m ∷ past) c key || is_due l (Run c words m) past c key
     || has_ended l c (Run c words m ∷ past)) ≡ true
-grown_is_owed l c m words past key legal holds =
+grown_stays l c m words past key on stays holds =
     let s = state l past in
     let t = run_action c words m s in
     let grown = rows_grown t s in
@@ -94,9 +94,9 @@ grown_is_owed l c m words past key legal holds =
     owed (is_on (state l (Run c words m ∷ past)) c) _ (has_id c (holders_of key (drop n grown))) _ _
     _
     (on_is l (Run c words m ∷ past) c
-    ∙ ap (λ x. is_admitted past c && not (not (is_live x))) (run_stands l past c c m words)
-    ∙ legal.0)
-    (ap (λ rs. has_id c (holders_of key rs)) (run_table l past c m words))
+    ∙ ap (λ x. is_admitted past c && not (not (is_live x))) (run_stands l past c c m words stays)
+    ∙ on)
+    (ap (λ rs. has_id c (holders_of key rs)) (run_table_stays l past c m words stays))
     (λ gone. list_any-append (tells c key) (expiry_told t s) (later_told l t s)
     ∙ or_right _ _ (list_any-append (tells c key) (own_told t s) (drops_told l t s)
     ∙ or_right _ _ (drop_tells c key n grown holds
@@ -104,6 +104,19 @@ grown_is_owed l c m words past key legal holds =
   where
     left : (x y : Bool) → (x || y) ≡ true → y ≡ false → x ≡ true
     left x y e f = grind arith
+
+-- a key that its connection remembers where keys are dropped is owed or told
+pub grown_is_owed : (l : Limits) (c m : ℕ) (words : List (List ℕ)) (past : List Entry)
+    (key : List ℕ) → IsLegal l (Run c words m ∷ past)
+    → has_id c (holders_of key (table_grown l past c words m)) ≡ true
+    → (is_told l (Run c words m ∷ past) c key || is_due l (Run c words m) past c key
+    || has_ended l c (Run c words m ∷ past)) ≡ true
+grown_is_owed l c m words past key legal holds = elim (cases_Bool (is_quit words)) [
+  | inl does ↦ or_right _ _
+      (run_ended l past c c m words legal.0
+      ∙ or_right _ _ (and_from _ _ (eq-eqb c c refl) does))
+  | inr stays ↦ grown_stays l c m words past key legal.0 stays holds
+]
 
 pub read_is_owed_or_told : ReadIsOwedOrTold
 read_is_owed_or_told l c m words past key legal cacheable tracks is =

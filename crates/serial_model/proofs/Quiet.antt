@@ -1,61 +1,73 @@
 -- A command leaves its connection's protocol and tracking, or it signals and remembers nothing.
 use Rattle.std.proofs.Common.{◌≡◌, ◌∙◌, ◌⊎◌, inl, inr, ◌≤◌, ◌++◌, ℕ, List, [], ◌∷◌, Bool, cond}
-use Rattle.std.proofs.Common.{refl, ap, true, false, Option, Result, Ok, length, arith}
+use Rattle.std.proofs.Common.{refl, ap, true, false, Option, None, Some, Result, Ok, length, arith}
 use Rattle.std.specs.Prelude.{◌==◌}
 use Rattle.std.proofs.lemmas.Bool.{eqb-true, cases_Bool}
-use Rattle.command_words.specs.declared.command.Command.TheVariants.{ClientTracking}
+use Rattle.command_words.specs.declared.command.Command.TheVariants.{ClientTracking, Reset}
 use Rattle.command_words.specs.declared.command.TrackOptions.{TrackOptions}
 use Rattle.command_words.specs.declared.command.Signalled.{Signalled}
 use Rattle.command_words.specs.declared.command.Signalled.TheVariants.{Keys}
 use Rattle.command_words.specs.declared.command.WordFault.{WordFault}
 use Rattle.command_words.specs.declared.command.Command.{Command}
+use Rattle.command_words.specs.Effect.{Effect}
+use Rattle.command_words.specs.Effects.{has_row}
 use Rattle.command_words.specs.Expiry.{without_due}
+use Rattle.command_words.specs.Queries.{read}
 use Rattle.command_words.specs.Space.{Space}
 use Rattle.command_words.specs.Words.{reading}
 use Rattle.track_table.specs.declared.table.Held.{Held}
 use Rattle.track_table.specs.Table.{dropped}
 use Rattle.track_modes.specs.declared.fault.ModeFault.{ModeFault}
-use Rattle.track_modes.specs.Tracked.{tracking_fault}
+use Rattle.track_modes.specs.declared.tracking.Tracking.{Tracking}
 use Rattle.track_modes.specs.Commands.{fault_at}
 use Rattle.track_modes.specs.ModeState as mode_state
 use Rattle.track_modes.specs.ModeState.{ModeState}
 use Rattle.serial_model.specs.declared.history.Limits.{Limits}
 use Rattle.serial_model.specs.declared.history.Entry.{Entry}
 use Rattle.serial_model.specs.Modes.{Memory, Remembers, Registers, Forgets, Runner, own_effect}
-use Rattle.serial_model.specs.Modes.{unless_refused}
+use Rattle.serial_model.specs.Modes.{memory_of, tracking_memory, unless_refused}
 use Rattle.serial_model.specs.State.{State}
 use Rattle.serial_model.specs.Tracking.{drop_group, remembering, without_signalled}
 use Rattle.serial_model.specs.Actions.{Action, modes_then, rows_then}
 use Rattle.serial_model.specs.Plain.{signalled_group, told_then}
 use Rattle.serial_model.specs.History.{state, protocol, served, effect_of, ran_over, made_of}
 use Rattle.serial_model.specs.History.{runner_in, run_action, tick_action, table_then}
-use Rattle.serial_model.proofs.ServedRows.{served_cases, data_own}
+use Rattle.serial_model.proofs.ServedRows.{served_cases, data_own, own_replied, read_none}
 use Rattle.serial_model.proofs.TableSize.{none_dropped, then_within, without_within}
 
 -- it adds no row
 abbrev Adds : ℕ → Memory → Type 0
 Adds id memory = (rows : List Held) → length (remembering id memory rows) ≤ length rows
 
-adds_none : (id : ℕ) (b : Bool) → Adds id (Remembers (cond b [] []))
-adds_none id true rows = omega arith
-adds_none id false rows = omega arith
+-- no key is remembered
+abbrev pub AddsNone : Memory → Type 0
+AddsNone (Remembers []) = Unit {0}
+AddsNone (Remembers (k ∷ ks)) = ⊥
+AddsNone (Registers ps) = Unit {0}
+AddsNone Forgets = Unit {0}
 
--- what CLIENT TRACKING leaves
-abbrev OfTracking : Memory → Type 0
-OfTracking (Remembers []) = Unit {0}
-OfTracking (Remembers (k ∷ ks)) = ⊥
-OfTracking (Registers ps) = Unit {0}
-OfTracking Forgets = Unit {0}
+none_adds : (id : ℕ) (memory : Memory) → AddsNone memory → Adds id memory
+none_adds id (Remembers []) h rows = omega arith
+none_adds id (Remembers (k ∷ ks)) h rows = absurd h
+none_adds id (Registers ps) h rows = omega arith
+none_adds id Forgets h rows = without_within id rows
 
-tracking_adds : (id : ℕ) (memory : Memory) → OfTracking memory → Adds id memory
-tracking_adds id (Remembers []) h rows = omega arith
-tracking_adds id (Remembers (k ∷ ks)) h rows = absurd h
-tracking_adds id (Registers ps) h rows = omega arith
-tracking_adds id Forgets h rows = without_within id rows
+read_adds : (b : Bool) (keys : List (List ℕ)) → keys ≡ [] → AddsNone (Remembers (cond b keys []))
+read_adds b keys e = grind arith
 
-pub of_tracking : (fault : Option ModeFault) (o : TrackOptions) (m : ModeState)
-    → OfTracking (unless_refused fault (ClientTracking o) m).memory
-of_tracking fault o m = grind arith
+tracking_adds : (o : TrackOptions) (t : Tracking) → AddsNone (tracking_memory o t)
+tracking_adds o t = grind arith
+
+memory_adds : (c : Command) (m : ModeState) → has_row c ≡ false → AddsNone (memory_of c m)
+memory_adds (ClientTracking o) m none = tracking_adds o m.tracking
+memory_adds Reset m none = tt
+memory_adds c m none = read_adds (mode_state.remembers_read m) (read c) (read_none c none)
+
+-- a command of a connection alone remembers no key
+pub own_adds : (fault : Option ModeFault) (c : Command) (m : ModeState) → has_row c ≡ false
+    → AddsNone (unless_refused fault c m).memory
+own_adds None c m none = memory_adds c m none
+own_adds (Some fault) c m none = tt
 
 abbrev SameOrQuiet : Runner → List (List ℕ) → Space → ℕ → Result Command WordFault → Type 0
 SameOrQuiet by words space moment r =
@@ -66,24 +78,22 @@ SameOrQuiet by words space moment r =
 
 same_or_quiet : (by : Runner) (words : List (List ℕ)) (space : Space) (moment : ℕ)
     (r : Result Command WordFault) → SameOrQuiet by words space moment (served r)
-unfolding fault_at
 same_or_quiet by words space moment r =
     served_cases (SameOrQuiet by words space moment)
-    (λ word. inr (refl, adds_none by.id (mode_state.remembers_read by.mode)))
-    (λ options. inr (
-      refl,
-      tracking_adds by.id (own_effect (Ok (ClientTracking options)) by).memory
-          (of_tracking (tracking_fault options by.target_exists by.mode.tracking) options by.mode),
+    (λ c is none. inr (
+      ap (λ (e : Effect). e.signalled) (own_replied by words c space moment is none),
+      none_adds by.id (own_effect (Ok c) by).memory
+          (own_adds (fault_at c by.target_exists by.mode) c by.mode none),
     ))
     (λ command is. rw (data_own command by is) (inl (refl, refl)))
     (λ fault. inl (refl, refl)) r
 
-quiet_told : (l : Limits) (id : ℕ) (memory : Memory) (sig : Signalled) (ids : List ℕ)
-    (rows : List Held) → sig ≡ Keys [] → Adds id memory → length rows ≤ l.table_max
-    → signalled_group sig ids rows
+quiet_told : (l : Limits) (id : ℕ) (memory : Memory) (sig : Signalled) (passed : ℕ → Bool)
+    (ids : List ℕ) (rows : List Held) → sig ≡ Keys [] → Adds id memory → length rows ≤ l.table_max
+    → signalled_group sig passed ids rows
     ++ drop_group (dropped l.table_max (remembering id memory (without_signalled sig rows))) ≡ []
-quiet_told l id memory sig ids rows e adds le =
-    ap (λ g. signalled_group g ids rows
+quiet_told l id memory sig passed ids rows e adds le =
+    ap (λ g. signalled_group g passed ids rows
     ++ drop_group (dropped l.table_max (remembering id memory (without_signalled g rows)))) e
     ∙ ap drop_group (none_dropped l.table_max (remembering id memory rows)
     (let a = adds rows in omega (arith, a, le)))
@@ -123,7 +133,7 @@ module _ (l : Limits) (past : List Entry) (c id : ℕ) (words : List (List ℕ))
             ∙ ap (λ k. mode_state.is_on (s.modes k).tracking) (eqb-true id c e),
       )
       by e (inr quiet) =
-          inr (quiet_told l id t.effect.memory t.effect.signalled _ (rows_then t s) quiet.0
+          inr (quiet_told l id t.effect.memory t.effect.signalled _ _ (rows_then t s) quiet.0
           quiet.1 (then_within l past moment))
 
 pub tick_none : (l : Limits) (past : List Entry) (moment : ℕ)

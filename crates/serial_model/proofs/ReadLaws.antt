@@ -8,11 +8,11 @@ use Rattle.command_words.specs.Queries.{reads_as_cacheable, key_of}
 use Rattle.command_words.specs.Space.{Space, held_at}
 use Rattle.command_words.specs.Words.{reading}
 use Rattle.serial_model.specs.declared.history.Entry.TheVariants.{Admit, Run, Tick, Take, Close}
-use Rattle.serial_model.specs.Modes.{Runner, is_stopping}
+use Rattle.serial_model.specs.Modes.{Runner}
 use Rattle.serial_model.specs.History.{state, keyspace, ran_over, ran, runner, served_reading}
 use Rattle.serial_model.specs.Laws.{ChangeIsSignalled, ReadReplies}
 use Rattle.serial_model.proofs.DueKeys.{due_is_past}
-use Rattle.serial_model.proofs.ServedRows.{served_is, query_effect, none_ends}
+use Rattle.serial_model.proofs.ServedRows.{served_is, query_effect, none_stops}
 use Rattle.serial_model.proofs.EntryLaws.{held_same}
 use Rattle.serial_model.proofs.QueryKeys.{answers_alike}
 
@@ -47,6 +47,5 @@ read_ran space by words moment h = grind (arith, served_is, query_effect)
 pub read_replies : ReadReplies
 unfolding state
 read_replies l id moment words past h =
-    ap (λ e. cond (is_stopping e) None (Some (ran l past id words moment).reply))
-    (none_ends (reading words))
+    ap (λ b. cond b None (Some (ran l past id words moment).reply)) (none_stops (reading words))
     ∙ ap (λ v. Some v) (read_ran _ (runner l past id words) words moment h)

@@ -15,10 +15,10 @@ use Rattle.resp_value.specs.declared.value.Value.TheVariants.{Simple}
 use Rattle.resp_value.specs.Tree.{in_turn}
 use Rattle.command_words.specs.declared.command.Command.{Command}
 use Rattle.command_words.specs.declared.command.Command.TheVariants as command
-use Rattle.command_words.specs.declared.command.TrackOptions.{TrackOptions}
 use Rattle.command_words.specs.declared.command.Signalled.{Signalled}
 use Rattle.command_words.specs.declared.command.Signalled.TheVariants.{Keys, All}
 use Rattle.command_words.specs.declared.command.WordFault.{WordFault}
+use Rattle.command_words.specs.declared.command.WordFault.TheVariants.{Unknown}
 use Rattle.command_words.specs.KeyLists.{each_once}
 use Rattle.command_words.specs.Laws.{signals}
 use Rattle.command_words.specs.Space.{Content, Text, Fields, Held, Space, content_at, held_at}
@@ -39,21 +39,34 @@ use Rattle.command_words.proofs.HeldAt.{at_insert, at_remove, at_remove_each}
 use Rattle.command_words.proofs.KeysOnce.{any_left, any_once, left_false, right_false}
 use Rattle.track_modes.specs.ModeState.{remembers_read}
 use Rattle.track_modes.specs.Commands.{fault_at, spent_mode}
-use Rattle.serial_model.specs.Modes.{Runner, Remembers, Stays, own_effect, ending_of}
+use Rattle.serial_model.specs.Modes.{Runner, Remembers, own_effect, Ending, Quits, Stays, ending_of}
+use Rattle.serial_model.specs.Modes.{is_quitting, is_stopping}
 use Rattle.serial_model.specs.Tracking.{AreApart}
-use Rattle.serial_model.specs.History.{served, effect_of}
+use Rattle.serial_model.specs.History.{served, is_served, effect_of}
 use Rattle.serial_model.specs.Laws.{is_among}
 
 -- ---- what is served
 
--- what is served is HELLO, CLIENT TRACKING, a data command, or a fault
+-- what is served is a command of a connection alone, a data command, or a fault
 module _ (P : Result Command WordFault → Type 0)
-    (hello : (word : Option (List ℕ)) → P (Ok (command.Hello word)))
-    (tracking : (options : TrackOptions) → P (Ok (command.ClientTracking options)))
+    (own_command : (c : Command) → is_served c ≡ true → has_row c ≡ false → P (Ok c))
     (data_command : (c : Command) → has_row c ≡ true → P (Ok c))
     (fault : (f : WordFault) → P (Err f)) where
+  of_command : (c : Command) (row : Bool) → has_row c ≡ row → is_served c ≡ true → P (Ok c)
+  of_command c true e is = data_command c e
+  of_command c false e is = own_command c is e
+
+  by_serving : (c : Command) (b : Bool) → is_served c ≡ b
+      → P (if b then Ok c else Err Unknown)
+  by_serving c true is = of_command c (has_row c) refl is
+  by_serving c false is = fault Unknown
+
   pub served_cases : (r : Result Command WordFault) → P (served r)
-  served_cases r = grind arith
+  served_cases (Ok c) = by_serving c (is_served c) refl
+  served_cases (Err f) = fault f
+
+pub row_served : (c : Command) → has_row c ≡ true → is_served c ≡ true
+row_served c h = grind arith
 
 -- words that are served as a cacheable query are those that are read
 pub served_is : (r : Result Command WordFault) → reads_as_cacheable (served r) ≡ true
@@ -65,11 +78,22 @@ module _ (by : Runner) (words : List (List ℕ)) where
       → effect_of by words (Ok c) s moment ≡ effect c s moment
   data_effect c s moment h = grind arith
 
+  -- a command of a connection alone is answered, and nothing changes
+  pub own_replied : (c : Command) (s : Space) (moment : ℕ) → is_served c ≡ true
+      → has_row c ≡ false
+      → effect_of by words (Ok c) s moment
+      ≡ replied (effect_of by words (Ok c) s moment).reply s
+  own_replied c s moment is none = grind arith
+
   -- a cacheable query is answered, and nothing changes
   pub query_effect : (r : Result Command WordFault) (s : Space) (moment : ℕ)
       → reads_as_cacheable r ≡ true → effect_of by words r s moment ≡ replied (answer_as r s) s
   unfolding effect string_effect hash_effect key_effect read_reply
   query_effect r s moment h = grind arith
+
+-- data commands alone read keys
+pub read_none : (c : Command) → has_row c ≡ false → read c ≡ []
+read_none c none = grind arith
 
 -- a data command ends what CLIENT CACHING said, and its connection remembers what it read
 pub data_own : (c : Command) (by : Runner) → has_row c ≡ true
@@ -81,9 +105,19 @@ pub data_own : (c : Command) (by : Runner) → has_row c ≡ true
 unfolding fault_at
 data_own c by h = grind arith
 
--- nothing that is served ends a connection
-pub none_ends : (r : Result Command WordFault) → ending_of (served r) ≡ Stays
-none_ends r = grind arith
+-- nothing that is served stops the server: QUIT alone ends a connection
+pub none_stops : (r : Result Command WordFault) → is_stopping (ending_of (served r)) ≡ false
+none_stops =
+    served_cases (λ r. is_stopping (ending_of r) ≡ false) (λ c is none. grind arith)
+    (λ c row. grind arith) (λ f. refl)
+
+quits_or_stays : (e : Ending) → is_stopping e ≡ false
+    → e ≡ (if is_quitting e then Quits else Stays)
+quits_or_stays e h = grind arith
+
+pub only_quit_ends : (r : Result Command WordFault)
+    → ending_of (served r) ≡ (if is_quitting (ending_of (served r)) then Quits else Stays)
+only_quit_ends r = quits_or_stays (ending_of (served r)) (none_stops r)
 
 -- ---- what a row does
 

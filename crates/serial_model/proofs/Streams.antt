@@ -2,19 +2,19 @@
 -- waits.
 use Rattle.std.proofs.Common.{◌≡◌, ◌+◌, ◌-◌, ◌<◌, ◌≤◌, ℕ, List, [], ◌∷◌, ◌++◌, length, drop, min}
 use Rattle.std.proofs.Common.{sym, ap, ◌∙◌, refl, arith, Bool, true, false, cond, append-nil}
-use Rattle.std.proofs.Common.{length-append}
+use Rattle.std.proofs.Common.{length-append, take}
 use Rattle.std.specs.Prelude.{◌==◌, ◌&&◌, not}
 use Rattle.std.proofs.lemmas.Grind.{flat_map-append}
 use Rattle.std.proofs.lemmas.List.{drop-drop, drop-append-le, drop_all, length-drop}
-use Rattle.std.proofs.Math.Seq.{drop-nil}
+use Rattle.std.proofs.Math.Seq.{drop-nil, take-nil}
 use Rattle.std.proofs.lemmas.Bool.{cases_lt, and_parts, both_ways, true_from_ne_false, eqb-true}
-use Rattle.std.proofs.lemmas.Bool.{eq-eqb}
+use Rattle.std.proofs.lemmas.Bool.{eq-eqb, not-true}
 use Rattle.std.proofs.lemmas.Bool.Decides.{nat_tests}
 use Rattle.serial_model.specs.declared.history.Limits.{Limits}
 use Rattle.serial_model.specs.declared.history.Entry.{Entry}
 use Rattle.serial_model.specs.declared.history.Entry.TheVariants.{Admit, Run, Tick, Take, Close}
 use Rattle.serial_model.specs.declared.standing.Standing.{Standing}
-use Rattle.serial_model.specs.declared.standing.Standing.TheVariants.{Live, Quit, QuitClosed, Gone}
+use Rattle.serial_model.specs.declared.standing.Standing.TheVariants.{Quit, Gone}
 use Rattle.serial_model.specs.Tracking.{has_id}
 use Rattle.serial_model.specs.State.{State, is_live, keeps_bytes, may_take, closed}
 use Rattle.serial_model.specs.Actions.{Action, action_sends, action_leaves, ends, bytes_to}
@@ -26,9 +26,9 @@ use Rattle.serial_model.specs.History.{state, sends, next, sent_to, sent_bytes, 
 use Rattle.serial_model.specs.History.{unsent, runs_of, run_action, tick_action, IsLegal}
 use Rattle.serial_model.specs.Laws.{CloseGivesUp, WaitingIsUnsent}
 use Rattle.serial_model.proofs.Sendings.{bytes_are}
-use Rattle.serial_model.proofs.Ends.{not_ending}
+use Rattle.serial_model.proofs.Ends.{not_ending, sends_none}
 use Rattle.serial_model.proofs.Fresh.{sent_fresh, fresh_is_first}
-use Rattle.serial_model.proofs.StateSteps.{run_stands, tick_stands}
+use Rattle.serial_model.proofs.StateSteps.{run_ends, run_ends_other, tick_stands}
 
 both_true : (a b : Bool) → (a && not b) ≡ true → (a ≡ true) × (b ≡ false)
 both_true a b h = grind arith
@@ -40,55 +40,69 @@ admitted_id past id h = (grind (arith, nat_tests), grind (arith, nat_tests))
 live_keeps : (x : Standing) → not (is_live x) ≡ false → keeps_bytes x ≡ true
 live_keeps x e = grind arith
 
--- ---- nothing quits
+closed_keeps : (x : Standing) → keeps_bytes (closed x) ≡ false
+closed_keeps x = grind arith
 
-is_settled : Standing → Bool
-is_settled Live = true
-is_settled Gone = true
-is_settled Quit = false
-is_settled QuitClosed = false
+-- ---- what a connection may still do
 
-settles : (b : Bool) (x y : Standing) → is_settled x ≡ true → is_settled y ≡ true
-    → is_settled (cond b (closed x) y) ≡ true
-unfolding is_settled
-settles b x y e f = grind arith
+runs_keeps : (a : Bool) (x : Standing) → (a && not (not (is_live x))) ≡ true
+    → (a && keeps_bytes x) ≡ true
+runs_keeps a x h = grind arith
 
-settled_keeps : (x : Standing) → is_settled x ≡ true → keeps_bytes x ≡ is_live x
-unfolding is_settled
-settled_keeps x e = grind arith
+keeps_takes : (a : Bool) (x : Standing) → (a && keeps_bytes x) ≡ true → (a && may_take x) ≡ true
+keeps_takes a x h = grind arith
 
-settled_takes : (x : Standing) → is_settled x ≡ true → may_take x ≡ is_live x
-unfolding is_settled
-settled_takes x e = grind arith
+-- where an action ends a connection, that one quits
+keeps_after : (h q : Bool) (x : Standing) → (h ≡ true → q ≡ true) → (h ≡ true → is_live x ≡ true)
+    → keeps_bytes (cond h (cond q Quit Gone) x) ≡ keeps_bytes x
+keeps_after h q x f g = grind arith
 
-twice : (a b : Bool) → (a && b) ≡ (a && not (not b))
-twice a b = grind arith
+takes_after : (h q : Bool) (x : Standing) → (h ≡ true → q ≡ true) → (h ≡ true → is_live x ≡ true)
+    → may_take (cond h (cond q Quit Gone) x) ≡ may_take x
+takes_after h q x f g = grind arith
+
+ending_live : (o : ℕ → Bool) (t : Action) (s : State) (c : ℕ) → has_id c (ends o t s) ≡ true
+    → is_live (s.standing c) ≡ true
+ending_live o t s c h = true_from_ne_false _ (λ e. both_ways _ (not_ending o t s c e) h)
+
+ending_quits : (l : Limits) (id moment : ℕ) (words : List (List ℕ)) (s : State) (c : ℕ)
+    → has_id c (run_ends l id words moment s) ≡ true
+    → quits (run_action id words moment s) c ≡ true
+ending_quits l id moment words s c h =
+    true_from_ne_false _ (λ e. both_ways _ (run_ends_other l id words moment s c e) h)
 
 module _ (l : Limits) where
-  settled : (past : List Entry) (c : ℕ) → is_settled ((state l past).standing c) ≡ true
-  unfolding state is_settled
-  settled [] c = refl
-  settled (Admit id ∷ past) c = settled past c
-  settled (Run id words moment ∷ past) c =
-      ap is_settled (run_stands l past c id moment words) ∙ settled past c
-  settled (Tick moment ∷ past) c = ap is_settled (tick_stands l past c moment) ∙ settled past c
-  settled (Take id max ∷ past) c = settled past c
-  settled (Close id ∷ past) c =
-      settles (id == c) ((state l past).standing id) ((state l past).standing c) (settled past id)
-      (settled past c)
+  -- one that runs on can be closed, and one that can be closed may take
+  pub runs_read : (past : List Entry) (c : ℕ) → runs_on l past c ≡ true → reads_on l past c ≡ true
+  runs_read past c h = runs_keeps (is_admitted past c) ((state l past).standing c) h
 
-  -- one that may not run may not be closed or take either
-  pub reads_is_runs : (past : List Entry) (c : ℕ) → reads_on l past c ≡ runs_on l past c
-  reads_is_runs past c =
-      ap (λ b. is_admitted past c && b)
-      (settled_keeps ((state l past).standing c) (settled past c))
-      ∙ twice (is_admitted past c) (is_live ((state l past).standing c))
+  pub reads_give : (past : List Entry) (c : ℕ) → reads_on l past c ≡ true
+      → gives_on l past c ≡ true
+  reads_give past c h = keeps_takes (is_admitted past c) ((state l past).standing c) h
 
-  pub gives_is_runs : (past : List Entry) (c : ℕ) → gives_on l past c ≡ runs_on l past c
-  gives_is_runs past c =
-      ap (λ b. is_admitted past c && b)
-      (settled_takes ((state l past).standing c) (settled past c))
-      ∙ twice (is_admitted past c) (is_live ((state l past).standing c))
+  pub runs_give : (past : List Entry) (c : ℕ) → runs_on l past c ≡ true → gives_on l past c ≡ true
+  runs_give past c h = reads_give past c (runs_read past c h)
+
+  -- a Run leaves what can be closed and who may take, also a QUIT
+  pub keeps_run : (past : List Entry) (c id moment : ℕ) (words : List (List ℕ))
+      → keeps_bytes ((state l (Run id words moment ∷ past)).standing c)
+      ≡ keeps_bytes ((state l past).standing c)
+  unfolding state
+  keeps_run past c id moment words =
+      let s = state l past in
+      let t = run_action id words moment s in
+      keeps_after (has_id c (ends (is_overgrown l t s) t s)) (quits t c) (s.standing c)
+      (ending_quits l id moment words s c) (ending_live (is_overgrown l t s) t s c)
+
+  pub takes_run : (past : List Entry) (c id moment : ℕ) (words : List (List ℕ))
+      → may_take ((state l (Run id words moment ∷ past)).standing c)
+      ≡ may_take ((state l past).standing c)
+  unfolding state
+  takes_run past c id moment words =
+      let s = state l past in
+      let t = run_action id words moment s in
+      takes_after (has_id c (ends (is_overgrown l t s) t s)) (quits t c) (s.standing c)
+      (ending_quits l id moment words s c) (ending_live (is_overgrown l t s) t s c)
 
   -- a connection that runs on was admitted, and has not ended
   pub connected : (past : List Entry) (id : ℕ) → runs_on l past id ≡ true
@@ -197,24 +211,29 @@ module _ (l : Limits) where
   unfolding unsent keeps
   unsent_if past c = refl
 
-  pub unsent_live : (past : List Entry) (c : ℕ) → has_ended l c past ≡ false
+  -- a connection keeps what it did not take until it is closed
+  pub unsent_kept : (past : List Entry) (c : ℕ) → keeps_bytes ((state l past).standing c) ≡ true
       → unsent l c past ≡ drop (taken l c past) (stream l c past)
   unfolding keeps
-  unsent_live past c h =
-      unsent_if past c
-      ∙ ap (λ b. cond b (drop (taken l c past) (stream l c past)) [])
-      (live_keeps ((state l past).standing c) h)
+  unsent_kept past c h =
+      unsent_if past c ∙ ap (λ b. cond b (drop (taken l c past) (stream l c past)) []) h
 
-  pub unsent_ended : (past : List Entry) (c : ℕ) → has_ended l c past ≡ true → unsent l c past ≡ []
+  pub unsent_gone : (past : List Entry) (c : ℕ) → keeps_bytes ((state l past).standing c) ≡ false
+      → unsent l c past ≡ []
   unfolding keeps
-  unsent_ended past c h =
-      unsent_if past c
-      ∙ ap (λ b. cond b (drop (taken l c past) (stream l c past)) [])
-      (settled_keeps ((state l past).standing c) (settled past c)
-      ∙ off ((state l past).standing c) h)
-    where
-      off : (x : Standing) → not (is_live x) ≡ true → is_live x ≡ false
-      off x e = grind arith
+  unsent_gone past c h =
+      unsent_if past c ∙ ap (λ b. cond b (drop (taken l c past) (stream l c past)) []) h
+
+  pub unsent_live : (past : List Entry) (c : ℕ) → has_ended l c past ≡ false
+      → unsent l c past ≡ drop (taken l c past) (stream l c past)
+  unsent_live past c h = unsent_kept past c (live_keeps ((state l past).standing c) h)
+
+  -- where something is left to take, the connection keeps it
+  pub some_kept : (past : List Entry) (c most : ℕ) → (take most (unsent l c past) ≡ [] → ⊥)
+      → keeps_bytes ((state l past).standing c) ≡ true
+  some_kept past c most some =
+      true_from_ne_false _
+      (λ e. some (ap (take most) (unsent_gone past c e) ∙ take-nil most))
 
   pub unsent_fresh : (past : List Entry) (c : ℕ) → IsLegal l past → admitted past < c
       → unsent l c past ≡ []
@@ -239,8 +258,8 @@ module _ (l : Limits) where
       → unsent l c (Run id words moment ∷ past)
       ≡ unsent l c past ++ run_bytes past id words moment c
   unsent_run past c id moment words h =
-      unsent_live (Run id words moment ∷ past) c
-      (ap (λ x. not (is_live x)) (run_stands l past c id moment words) ∙ h)
+      unsent_kept (Run id words moment ∷ past) c
+      (keeps_run past c id moment words ∙ live_keeps ((state l past).standing c) h)
       ∙ ap (drop (taken l c past)) (stream_more past c (Run id words moment))
       ∙ drop-append-le (taken l c past) (stream l c past) _ (taken_le past c)
       ∙ ap (λ x. x ++ run_bytes past id words moment c) (sym (unsent_live past c h))
@@ -253,6 +272,31 @@ module _ (l : Limits) where
       ∙ ap (drop (taken l c past)) (stream_more past c (Tick moment))
       ∙ drop-append-le (taken l c past) (stream l c past) _ (taken_le past c)
       ∙ ap (λ x. x ++ tick_bytes past moment c) (sym (unsent_live past c h))
+
+  -- one that has ended is sent nothing more
+  stream_ended : (past : List Entry) (c : ℕ) (entry : Entry) → has_ended l c past ≡ true
+      → stream l c (entry ∷ past) ≡ stream l c past
+  stream_ended past c entry h =
+      stream_more past c entry
+      ∙ ap (λ x. stream l c past ++ sent_bytes x)
+      (sends_none l entry (state l past) (length past + 1) c
+      (not-true (is_live ((state l past).standing c)) h))
+      ∙ append-nil (stream l c past)
+
+  pub unsent_run_ended : (past : List Entry) (c id moment : ℕ) (words : List (List ℕ))
+      → has_ended l c past ≡ true
+      → unsent l c (Run id words moment ∷ past) ≡ unsent l c past
+  unfolding keeps
+  unsent_run_ended past c id moment words h =
+      unsent_same past c (Run id words moment) (keeps_run past c id moment words) refl
+      (stream_ended past c (Run id words moment) h)
+
+  pub unsent_tick_ended : (past : List Entry) (c moment : ℕ) → has_ended l c past ≡ true
+      → unsent l c (Tick moment ∷ past) ≡ unsent l c past
+  unfolding keeps
+  unsent_tick_ended past c moment h =
+      unsent_same past c (Tick moment) (ap keeps_bytes (tick_stands l past c moment)) refl
+      (stream_ended past c (Tick moment) h)
 
   drop_min : (m : ℕ) (q : List ℕ) → drop (min m (length q)) q ≡ drop m q
   drop_min m q = grind (arith, cases_lt, drop_all)
@@ -269,15 +313,21 @@ module _ (l : Limits) where
       (sym (length-drop (taken l c past) (stream l c past)))
       ∙ drop_min m (drop (taken l c past) (stream l c past))
 
-  pub unsent_take_own : (past : List Entry) (c id m : ℕ) → has_ended l c past ≡ false
-      → (id == c) ≡ true
+  dropped_if : (k : Bool) (m : ℕ) (x y : List ℕ) → x ≡ drop m y
+      → cond k x [] ≡ drop m (cond k y [])
+  dropped_if true m x y e = e
+  dropped_if false m x y e = sym (drop-nil m)
+
+  -- also after its QUIT
+  pub unsent_taken : (past : List Entry) (c id m : ℕ) → (id == c) ≡ true
       → unsent l c (Take id m ∷ past) ≡ drop m (unsent l c past)
-  unfolding state
-  unsent_take_own past c id m h same =
-      unsent_live (Take id m ∷ past) c h
-      ∙ ap (drop (taken l c (Take id m ∷ past))) (stream_take past c id m)
-      ∙ drop_taken past c id m same
-      ∙ ap (drop m) (sym (unsent_live past c h))
+  unfolding state keeps
+  unsent_taken past c id m same =
+      unsent_if (Take id m ∷ past) c
+      ∙ dropped_if (keeps past c) m _ (drop (taken l c past) (stream l c past))
+      (ap (drop (taken l c (Take id m ∷ past))) (stream_take past c id m)
+      ∙ drop_taken past c id m same)
+      ∙ ap (drop m) (sym (unsent_if past c))
 
   -- another's Close is no end
   pub ended_other : (past : List Entry) (c id : ℕ) → (id == c) ≡ false
@@ -311,7 +361,11 @@ module _ (l : Limits) where
 
   pub unsent_close_own : (past : List Entry) (c id : ℕ) → (id == c) ≡ true
       → unsent l c (Close id ∷ past) ≡ []
-  unsent_close_own past c id h = unsent_ended (Close id ∷ past) c (ended_close past c id h)
+  unfolding state
+  unsent_close_own past c id h =
+      unsent_gone (Close id ∷ past) c
+      (ap (λ b. keeps_bytes (cond b (closed ((state l past).standing id))
+      ((state l past).standing c))) h ∙ closed_keeps ((state l past).standing id))
 
   pub unsent_close_other : (past : List Entry) (c id : ℕ) → (id == c) ≡ false
       → unsent l c (Close id ∷ past) ≡ unsent l c past
@@ -335,10 +389,6 @@ keeps_before h q x f e = grind arith
 more : (k' k : Bool) (w t : ℕ) (x y : List ℕ) → (k' ≡ true → k ≡ true) → t ≤ length x
     → w ≡ cond k (length x - t) 0 → cond k' (w + length y) 0 ≡ cond k' (length (x ++ y) - t) 0
 more k' k w t x y f le e = rw length-append (grind arith)
-
-ending_live : (o : ℕ → Bool) (t : Action) (s : State) (c : ℕ) → has_id c (ends o t s) ≡ true
-    → is_live (s.standing c) ≡ true
-ending_live o t s c h = true_from_ne_false _ (λ e. both_ways _ (not_ending o t s c e) h)
 
 abbrev Waits : State → ℕ → ℕ → List ℕ → Type 0
 Waits s c took xs = s.waiting c ≡ cond (keeps_bytes (s.standing c)) (length xs - took) 0
@@ -400,9 +450,6 @@ waiting_is_unsent l c past =
     ∙ sym (left_is (keeps_bytes ((state l past).standing c)) (taken l c past) (stream l c past))
 
 -- ---- a Close gives up what was not taken
-
-closed_keeps : (x : Standing) → keeps_bytes (closed x) ≡ false
-closed_keeps x = grind arith
 
 pub close_gives_up : CloseGivesUp
 unfolding state unsent

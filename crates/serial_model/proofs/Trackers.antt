@@ -4,7 +4,10 @@ use Rattle.std.proofs.Common.{◌∙◌, arith, subst, Option, Some, None, Resul
 use Rattle.std.specs.Prelude.{◌==◌}
 use Rattle.std.proofs.lemmas.Bool.{eqb-true, eqb-false}
 use Rattle.command_words.specs.declared.command.Command.{Command}
-use Rattle.command_words.specs.declared.command.Command.TheVariants.{Hello, ClientTracking}
+use Rattle.command_words.specs.declared.command.Command.TheVariants.{Ping, Echo, Hello, Reset, Quit}
+use Rattle.command_words.specs.declared.command.Command.TheVariants.{ClientId, ClientTracking}
+use Rattle.command_words.specs.declared.command.Command.TheVariants.{ClientCaching, ClientGetRedir}
+use Rattle.command_words.specs.declared.command.Command.TheVariants.{ClientTrackingInfo}
 use Rattle.command_words.specs.declared.command.TrackOptions.{TrackOptions}
 use Rattle.command_words.specs.declared.command.WordFault.{WordFault}
 use Rattle.command_words.specs.Effects.{has_row}
@@ -16,12 +19,12 @@ use Rattle.prefix_table.specs.declared.table.Registration.{Registration}
 use Rattle.prefix_table.specs.Table as registrations
 use Rattle.track_modes.specs.declared.fault.ModeFault.{ModeFault}
 use Rattle.track_modes.specs.ModeState.{ModeState, is_on, remembers_read}
-use Rattle.track_modes.specs.Commands.{fault_at}
+use Rattle.track_modes.specs.Commands.{after_refusal, changed, ended, fault_at}
 use Rattle.serial_model.specs.declared.history.Limits.{Limits}
 use Rattle.serial_model.specs.declared.history.Entry.{Entry}
 use Rattle.serial_model.specs.declared.history.Entry.TheVariants.{Admit, Run, Tick, Take, Close}
 use Rattle.serial_model.specs.Modes.{Memory, Remembers, Registers, Forgets, OwnEffect, Runner}
-use Rattle.serial_model.specs.Modes.{own_effect, unless_refused}
+use Rattle.serial_model.specs.Modes.{memory_of, own_effect, unless_refused}
 use Rattle.serial_model.specs.State.{State, at}
 use Rattle.serial_model.specs.Tracking.{remembering, registering, without_signalled}
 use Rattle.serial_model.specs.Actions.{Action, action_leaves, modes_then, rows_then, rows_grown}
@@ -29,6 +32,7 @@ use Rattle.serial_model.specs.Actions.{ends}
 use Rattle.serial_model.specs.Actions.{is_overgrown}
 use Rattle.serial_model.specs.Each.{AllRows, AllRegistered}
 use Rattle.serial_model.specs.History.{state, made_of, runner_in, run_action, tick_action, served}
+use Rattle.serial_model.specs.History.{is_served}
 use Rattle.serial_model.proofs.Tables.{all_rows, all_registered, with_keys_all, with_prefixes_all}
 use Rattle.serial_model.proofs.Tables.{without_keys_all, without_signalled_all, kept_all, freed_all}
 use Rattle.serial_model.proofs.Tables.{unregistered_all, each_left_all, each_unregistered_all}
@@ -52,14 +56,34 @@ reads_track : (m : ModeState) (keys : List (List ℕ)) → 0 < length (cond (rem
     → tracks_in m ≡ true
 reads_track m keys lt = grind arith
 
-hello_own : (word : Option (List ℕ)) (by : Runner) → OwnOf (own_effect (Ok (Hello word)) by) by.mode
-unfolding fault_at
-hello_own None by = (refl, reads_track by.mode [])
-hello_own (Some word) by = (refl, reads_track by.mode [])
+tracking_own : (o : TrackOptions) (m : ModeState)
+    → Own (memory_of (ClientTracking o) m) m
+    (ended (ClientTracking o) (changed (ClientTracking o) m))
+tracking_own o m = grind arith
 
-tracking_own : (options : TrackOptions) (fault : Option ModeFault) (m : ModeState)
-    → OwnOf (unless_refused fault (ClientTracking options) m) m
-tracking_own options fault m = grind arith
+-- a command that changes its connection's mode alone keeps it as it tracks, or nothing is kept
+changed_own : (c : Command) (m : ModeState) → is_served c ≡ true → has_row c ≡ false
+    → Own (memory_of c m) m (ended c (changed c m))
+changed_own (Ping text) m is none = (refl, reads_track m [])
+changed_own (Echo text) m is none = (refl, reads_track m [])
+changed_own (Hello None) m is none = (refl, reads_track m [])
+changed_own (Hello (Some word)) m is none = (refl, reads_track m [])
+changed_own Reset m is none = tt
+changed_own Quit m is none = (refl, reads_track m [])
+changed_own ClientId m is none = (refl, reads_track m [])
+changed_own (ClientTracking options) m is none = tracking_own options m
+changed_own (ClientCaching is_yes) m is none = (refl, reads_track m [])
+changed_own ClientGetRedir m is none = (refl, reads_track m [])
+changed_own ClientTrackingInfo m is none = (refl, reads_track m [])
+changed_own _ m is none = absurd (let no : ⊥ = cc in no)
+
+fault_own : (fault : ModeFault) (m : ModeState) → Own (Remembers []) m (after_refusal fault m)
+fault_own fault m = grind arith
+
+unless_own : (fault : Option ModeFault) (c : Command) (m : ModeState) → is_served c ≡ true
+    → has_row c ≡ false → OwnOf (unless_refused fault c m) m
+unless_own None c m is none = changed_own c m is none
+unless_own (Some fault) c m is none = fault_own fault m
 
 data_tracks : (c : Command) (by : Runner) → has_row c ≡ true → OwnOf (own_effect (Ok c) by) by.mode
 data_tracks c by h =
@@ -72,9 +96,8 @@ refused_own fault by = (refl, grind arith)
 own_tracks : (r : Result Command WordFault) (by : Runner)
     → OwnOf (own_effect (served r) by) by.mode
 own_tracks r by =
-    served_cases (λ r. OwnOf (own_effect r by) by.mode) (λ word. hello_own word by)
-    (λ options. tracking_own options (fault_at (ClientTracking options) by.target_exists by.mode)
-    by.mode)
+    served_cases (λ r. OwnOf (own_effect r by) by.mode)
+    (λ c is none. unless_own (fault_at c by.target_exists by.mode) c by.mode is none)
     (λ c h. data_tracks c by h) (λ fault. refused_own fault by) r
 
 pub made_tracks : (words : List (List ℕ)) (by : Runner) → OwnOf (made_of words by) by.mode

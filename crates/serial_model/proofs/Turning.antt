@@ -14,13 +14,12 @@ use Rattle.serial_model.specs.declared.history.BookCall.TheVariants.{Admit, Run,
 use Rattle.serial_model.specs.declared.history.BookReply.{BookReply}
 use Rattle.serial_model.specs.declared.history.BookReply.TheVariants.{Ticked, Bytes, Refused}
 use Rattle.serial_model.specs.declared.history.BookRefusal.TheVariants.{NoMemory}
-use Rattle.serial_model.specs.History.{admitted, runs_on, reads_on, gives_on, has_ended, latest}
+use Rattle.serial_model.specs.History.{admitted, runs_on, reads_on, gives_on, latest}
 use Rattle.serial_model.specs.History.{stream, taken, unsent, runs_of, IsLegal, expired}
 use Rattle.serial_model.specs.Steps.{Turn, gone, admitting, running, closing, book_step}
 use Rattle.serial_model.specs.Steps.{BookStep, Turns, given_by, given, ran_by, answered}
 use Rattle.serial_model.specs.Laws.{IsAdded}
-use Rattle.serial_model.proofs.Streams.{stream_more, stream_take, taken_le, not_ended, unsent_live}
-use Rattle.serial_model.proofs.Streams.{gives_is_runs}
+use Rattle.serial_model.proofs.Streams.{some_kept, stream_more, stream_take, taken_le, unsent_kept}
 use Rattle.serial_model.proofs.StepCases.{by_admit, by_run, by_tick, by_take, by_close}
 
 module _ (l : Limits) where
@@ -49,11 +48,11 @@ module _ (l : Limits) where
   take_min : (m : ℕ) (q : List ℕ) → take (min m (length q)) q ≡ take m q
   take_min m q = grind (arith, cases_lt, take_all)
 
-  first_take : (c id most : ℕ) (past : List Entry) (bytes : List ℕ) → has_ended l id past ≡ false
-      → take most (unsent l id past) ≡ bytes
+  first_take : (c id most : ℕ) (past : List Entry) (bytes : List ℕ)
+      → (take most (unsent l id past) ≡ [] → ⊥) → take most (unsent l id past) ≡ bytes
       → first c past ++ (cond (id == c) bytes []) ≡ first c (entry.Take id most ∷ past)
   unfolding first
-  first_take c id most past bytes live h =
+  first_take c id most past bytes some h =
       let n = min most (length (stream l c past) - taken l c past) in
       elim (id == c) as (λ b. (id == c) ≡ b
       → first c past ++ (cond b bytes [])
@@ -64,7 +63,7 @@ module _ (l : Limits) where
             (sym (length-drop (taken l c past) (stream l c past)))
             ∙ take_min most (drop (taken l c past) (stream l c past))
             ∙ ap (λ i. take most (drop (taken l i past) (stream l i past))) (sym (eqb-true id c e))
-            ∙ ap (take most) (sym (unsent_live l past id live)) ∙ h))
+            ∙ ap (take most) (sym (unsent_kept l past id (some_kept l past id most some))) ∙ h))
         | false ↦ λ e. append-nil (first c past)
       ] refl
       ∙ ap (take (taken l c (entry.Take id most ∷ past))) (sym (stream_take l past c id most))
@@ -84,8 +83,7 @@ module _ (l : Limits) where
   step_gives c past (Take id most) =
       by_take l past (Gives c past (Take id most)) id most (append-nil (first c past))
       (append-nil (first c past))
-      (λ on some. first_take c id most past (take most (unsent l id past))
-      (not_ended l past id (sym (gives_is_runs l past id) ∙ on)) refl)
+      (λ on some. first_take c id most past (take most (unsent l id past)) some refl)
   step_gives c past (Close id) =
       by_close l past (Gives c past (Close id)) id (append-nil (first c past))
       (λ on. first_same c past (entry.Close id) refl)

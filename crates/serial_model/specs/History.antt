@@ -2,13 +2,16 @@
 -- runs of words are numbered from 1, and 0 is no number.
 use Rattle.std.specs.Prelude.{◌≡◌, ◌+◌, ◌-◌, ◌≤◌, ◌&&◌, ◌==◌, ℕ, List, [], ◌∷◌, ◌++◌, Bool}
 use Rattle.std.specs.Prelude.{true, not, if◌then◌else◌, nat_lt, nat_le, length, min, take}
-use Rattle.std.specs.Prelude.{drop, Option, Some, None}
+use Rattle.std.specs.Prelude.{drop, Option, Some, None, codes, pos}
 use Rattle.std.specs.Prelude.{Ok, Err, Result}
 use Rattle.std.specs.List.{flat_map}
-use Rattle.resp_value.specs.declared.value.Value.TheVariants.{Error}
+use Rattle.resp_value.specs.declared.value.Value.TheVariants.{Blob, Error, Map, Number, Simple}
 use Rattle.resp_value.specs.declared.value.Proto.{Proto}
 use Rattle.command_words.specs.declared.command.Command.{Command}
-use Rattle.command_words.specs.declared.command.Command.TheVariants.{Hello, ClientTracking}
+use Rattle.command_words.specs.declared.command.Command.TheVariants.{Ping, Echo, Hello, Reset, Quit}
+use Rattle.command_words.specs.declared.command.Command.TheVariants.{ClientId, ClientTracking}
+use Rattle.command_words.specs.declared.command.Command.TheVariants.{ClientCaching, ClientGetRedir}
+use Rattle.command_words.specs.declared.command.Command.TheVariants.{ClientTrackingInfo}
 use Rattle.command_words.specs.declared.command.Signalled.{Signalled}
 use Rattle.command_words.specs.declared.command.Signalled.TheVariants.{Keys}
 use Rattle.command_words.specs.declared.command.WordFault.{WordFault}
@@ -25,8 +28,9 @@ use Rattle.prefix_table.specs.Table as registrations
 use Rattle.track_modes.specs.ModeState.{ModeState}
 use Rattle.track_modes.specs.Commands.{fault_at}
 use Rattle.serial_model.specs.Modes.{hello, hello_reply, is_served_tracking, accepted, target_of}
+use Rattle.serial_model.specs.Modes.{pong, redirect_number, tracking_info}
 use Rattle.serial_model.specs.Modes.{Runner, OwnEffect, own_effect, Remembers, ending_of}
-use Rattle.serial_model.specs.Modes.{Stays, is_stopping}
+use Rattle.serial_model.specs.Modes.{Stays, is_quitting, is_stopping}
 use Rattle.serial_model.specs.Deadlines.{due_keys}
 use Rattle.serial_model.specs.Tracking.{Invalidation}
 use Rattle.serial_model.specs.State.{State, start, is_on, is_live, keeps_bytes, may_take}
@@ -65,11 +69,19 @@ latest (Close id ∷ past) = latest past
 
 -- ---- what words do
 
--- the commands that the server runs: those on strings, on hashes and on keys; HELLO; and CLIENT
--- TRACKING without options
+-- the commands that the server runs: those on strings, on hashes and on keys; those of a connection
+-- alone; and CLIENT TRACKING where its options concern no other connection and no prefix
 abbrev pub is_served : Command → Bool
+is_served (Ping text) = true
+is_served (Echo text) = true
 is_served (Hello word) = true
+is_served Reset = true
+is_served Quit = true
+is_served ClientId = true
 is_served (ClientTracking options) = is_served_tracking options
+is_served (ClientCaching is_yes) = true
+is_served ClientGetRedir = true
+is_served ClientTrackingInfo = true
 is_served command = has_row command
 
 -- words that read as another are unknown to it
@@ -82,10 +94,21 @@ served_reading words = served (reading words)
 
 -- what a command does to keys, and what it answers
 abbrev pub effect_of : Runner → List (List ℕ) → Result Command WordFault → Space → ℕ → words.Effect
+effect_of by words (Ok (Ping text)) space moment = replied (pong text) space
+effect_of by words (Ok (Echo text)) space moment = replied (Blob text) space
 effect_of by words (Ok (Hello word)) space moment =
     replied (hello_reply by.id (hello word by.mode.proto)) space
+effect_of by words (Ok Reset) space moment = replied (Simple (codes "RESET")) space
+effect_of by words (Ok Quit) space moment = replied (Simple (codes "OK")) space
+effect_of by words (Ok ClientId) space moment = replied (Number (pos by.id)) space
 effect_of by words (Ok (ClientTracking options)) space moment =
     replied (accepted (fault_at (ClientTracking options) by.target_exists by.mode)) space
+effect_of by words (Ok (ClientCaching is_yes)) space moment =
+    replied (accepted (fault_at (ClientCaching is_yes) by.target_exists by.mode)) space
+effect_of by words (Ok ClientGetRedir) space moment =
+    replied (Number (redirect_number by.mode.tracking)) space
+effect_of by words (Ok ClientTrackingInfo) space moment =
+    replied (Map (tracking_info by.is_broken by.mode)) space
 effect_of by words (Ok command) space moment = effect command space moment
 effect_of by words (Err fault) space moment = replied (Error (fault_text words fault)) space
 
@@ -97,6 +120,10 @@ ran_over space by words moment = effect_of by words (served_reading words) space
 unfoldable pub made_of : List (List ℕ) → Runner → OwnEffect
 made_of words by = own_effect (served_reading words) by
 
+-- the words end the connection that runs them
+abbrev pub is_quit : List (List ℕ) → Bool
+is_quit words = is_quitting (ending_of (served_reading words))
+
 -- the target of a redirection is a connection that was admitted and has not ended
 abbrev pub is_target : State → Option ℕ → Bool
 is_target s None = true
@@ -107,6 +134,7 @@ runner_in s id words =
     record {
       id = id;
       mode = s.modes id;
+      is_broken = s.broken id;
       target_exists = is_target s (target_of (served_reading words));
     }
 

@@ -1,12 +1,15 @@
 -- What holds of every history that turns make, read off the definitions alone.
 use Rattle.std.specs.Prelude.{◌≡◌, ◌==◌, ◌↔◌, ◌⊎◌, ◌<◌, ◌≤◌, ◌+◌, ◌||◌, ◌&&◌, not, ℕ, List, []}
 use Rattle.std.specs.Prelude.{◌∷◌, ◌++◌, Bool, true, false, filter, take, length, All, nat_eq}
-use Rattle.std.specs.Prelude.{Option, Some, None}
+use Rattle.std.specs.Prelude.{Option, Some, None, is_some, Result, Ok, if◌then◌else◌}
 use Rattle.std.specs.List.{list_any, starts_with}
 use Rattle.std.specs.Str.{bytes_eq}
 use Rattle.resp_value.specs.Lists.{IsPrefix}
 use Rattle.resp_value.specs.declared.value.Proto.{Proto}
 use Rattle.resp_value.specs.declared.value.Proto.TheVariants.{Two, Three}
+use Rattle.command_words.specs.declared.command.Command.{Command}
+use Rattle.command_words.specs.declared.command.Command.TheVariants.{ClientCaching}
+use Rattle.command_words.specs.declared.command.WordFault.{WordFault}
 use Rattle.command_words.specs.declared.command.Signalled.{Signalled}
 use Rattle.command_words.specs.declared.command.Signalled.TheVariants as signalled
 use Rattle.command_words.specs.Laws.{signals}
@@ -17,7 +20,8 @@ use Rattle.command_words.specs.Effects.{answer}
 use Rattle.track_table.specs.declared.table.Held.{Held}
 use Rattle.track_table.specs.Table.{holders_of}
 use Rattle.prefix_table.specs.declared.table.Registration.{Registration}
-use Rattle.track_modes.specs.ModeState.{new_mode, remembers_read}
+use Rattle.track_modes.specs.ModeState.{ModeState, new_mode, remembers_read}
+use Rattle.track_modes.specs.Tracked.{caching_fault}
 use Rattle.redirect.specs.declared.routes.Route.{Route}
 use Rattle.redirect.specs.declared.routes.Route.TheVariants as route
 use Rattle.redirect.specs.Messages.{push_of, message_of}
@@ -92,6 +96,26 @@ abbrev pub ModeByOwnRuns : Type 0
 ModeByOwnRuns =
     (l : Limits) (c : ℕ) (entry : Entry) (past : List Entry)
     → IsNoRun c entry → mode l c (entry ∷ past) ≡ mode l c past
+
+-- the words are CLIENT CACHING, which this mode does not refuse
+abbrev pub sets_caching : Result Command WordFault → ModeState → Bool
+sets_caching (Ok (ClientCaching is_yes)) m = not (is_some (caching_fault is_yes m.tracking))
+sets_caching read m = false
+
+-- the newest Run of the connection is an accepted CLIENT CACHING
+abbrev pub is_marked : Limits → ℕ → List Entry → Bool
+is_marked l c [] = false
+is_marked l c (entry.Admit id ∷ past) = is_marked l c past
+is_marked l c (entry.Run id words moment ∷ past) =
+    if id == c then sets_caching (reading words) (mode l c past) else is_marked l c past
+is_marked l c (entry.Tick moment ∷ past) = is_marked l c past
+is_marked l c (entry.Take id max ∷ past) = is_marked l c past
+is_marked l c (entry.Close id ∷ past) = is_marked l c past
+
+-- What CLIENT CACHING says is in force for a Run exactly where it is its connection's Run before.
+abbrev pub NextAfterMark : Type 0
+NextAfterMark =
+    (l : Limits) (c : ℕ) (past : List Entry) → (mode l c past).caching ≡ is_marked l c past
 
 -- The call is none of this connection's.
 abbrev pub IsOther : ℕ → BookCall → Type 0
@@ -369,7 +393,7 @@ DueIsSent =
     (sent_to (length past + 1) r (sends l entry (state l past)))
 
 -- On the third protocol a connection is sent a push of each key that an entry tells it of, while no
--- option of tracking is served.
+-- redirection is served.
 abbrev pub DueIsPushed : Type 0
 DueIsPushed =
     (l : Limits) (entry : Entry) (past : List Entry) (c : ℕ) (key : List ℕ)

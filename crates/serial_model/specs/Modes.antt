@@ -2,13 +2,14 @@
 -- of HELLO, CLIENT TRACKING, QUIT and SHUTDOWN).
 use Rattle.std.specs.Prelude.{ℕ, List, [], ◌∷◌, Option, Some, None, Result, Ok, Err, pos, codes}
 use Rattle.std.specs.Prelude.{is_some, if◌then◌else◌, Bool, true, false, not, ◌&&◌, ◌||◌, length}
-use Rattle.std.specs.Prelude.{◌==◌}
+use Rattle.std.specs.Prelude.{◌==◌, ℤ, negsuc, map}
+use Rattle.std.specs.Option.{option_map_or}
 use Rattle.std.specs.Str.{bytes_eq}
 use Rattle.resp_value.specs.declared.value.Value.{Value}
-use Rattle.resp_value.specs.declared.value.Value.TheVariants.{Error, Map, Simple}
+use Rattle.resp_value.specs.declared.value.Value.TheVariants.{Blob, Error, Map, Simple}
 use Rattle.resp_value.specs.declared.value.Proto.{Proto}
 use Rattle.resp_value.specs.declared.value.Proto.TheVariants.{Two, Three}
-use Rattle.resp_value.specs.Tree.{Tree, blob, number, array, end}
+use Rattle.resp_value.specs.Tree.{Tree, blob, number, array, set, end, trees_of}
 use Rattle.command_words.specs.declared.command.Command.{Command}
 use Rattle.command_words.specs.declared.command.Command.TheVariants.{ClientTracking, Reset}
 use Rattle.command_words.specs.declared.command.Command.TheVariants as command
@@ -18,7 +19,8 @@ use Rattle.command_words.specs.Integers.{integer_of}
 use Rattle.command_words.specs.Queries.{read}
 use Rattle.track_modes.specs.declared.fault.ModeFault.{ModeFault}
 use Rattle.track_modes.specs.declared.tracking.Tracking.{Tracking}
-use Rattle.track_modes.specs.ModeState.{ModeState, prefixes_of, remembers_read}
+use Rattle.track_modes.specs.declared.tracking.Tracking.TheVariants.{Off, On}
+use Rattle.track_modes.specs.ModeState.{ModeState, flags, prefixes_of, remembers_read}
 use Rattle.track_modes.specs.Commands.{after_refusal, changed, ended, fault_at, spent_mode}
 use Rattle.track_modes.specs.Texts.{mode_fault_text}
 use Rattle.track_modes.specs.Tracked.{tracked}
@@ -58,15 +60,13 @@ hello_reply id (Err text) = Error text
 
 -- ---- tracking
 
--- no option stands in the words of CLIENT TRACKING
-abbrev pub has_no_options : TrackOptions → Bool
-has_no_options o =
-    not (is_some o.redirect || o.bcast || o.optin || o.optout || o.noloop)
-    && (length o.prefixes == 0)
+-- no option of CLIENT TRACKING concerns another connection or a prefix
+abbrev pub is_of_keys_read : TrackOptions → Bool
+is_of_keys_read o = not (is_some o.redirect || o.bcast) && (length o.prefixes == 0)
 
 -- with OFF the options are read and have no effect
 abbrev pub is_served_tracking : TrackOptions → Bool
-is_served_tracking o = not o.on || has_no_options o
+is_served_tracking o = not o.on || is_of_keys_read o
 
 -- the connection that a command names as the target of a redirection
 abbrev pub target_in : TrackOptions → Option ℕ
@@ -81,12 +81,34 @@ abbrev pub accepted : Option ModeFault → Value
 accepted None = Simple (codes "OK")
 accepted (Some fault) = Error (mode_fault_text fault)
 
+-- ---- what a connection is told of the server and of itself
+
+abbrev pub pong : Option (List ℕ) → Value
+pong None = Simple (codes "PONG")
+pong (Some text) = Blob text
+
+-- the connection that messages are redirected to: 0 where there is none, -1 where tracking is off
+-- (CLIENT GETREDIR)
+abbrev pub redirect_number : Tracking → ℤ
+redirect_number Off = negsuc 0
+redirect_number (On s) = option_map_or pos s.redirect (pos 0)
+
+-- how it tracks, and whether its redirection is broken (CLIENT TRACKINGINFO)
+abbrev pub tracking_info : Bool → ModeState → List (Tree × Tree)
+tracking_info is_broken m =
+    (blob (codes "flags"), set (trees_of (map blob (flags is_broken m))))
+    ∷ (blob (codes "redirect"), number (redirect_number m.tracking))
+    ∷ (blob (codes "prefixes"), array (trees_of (map blob (prefixes_of m.tracking))))
+    ∷ []
+
 -- ---- what a command makes of its connection
 
--- who runs a command: a connection in its mode; the target that the command names has not ended
+-- who runs a command: a connection in its mode; its redirection is broken; the target that the
+-- command names has not ended
 pub record Runner : Type 0 where
   pub id : ℕ
   pub mode : ModeState
+  pub is_broken : Bool
   pub target_exists : Bool
 
 -- what a command does to what is kept for its connection: it remembers these keys too; these

@@ -4,7 +4,7 @@ ghost use Rattle.serial_model.specs.Laws.{DueIsPushed, DueIsSent};
 ghost use Rattle.serial_model.specs.Laws.{EachRunOnce, EndIsAtItsEntry, EndIsLast, EndIsSent};
 ghost use Rattle.serial_model.specs.Laws.{FreshIsFirst, FreshIsSentNothing, GivenIsStream};
 ghost use Rattle.serial_model.specs.Laws.{LegalIsAdded, LimitIsKept, MessagesAreLive};
-ghost use Rattle.serial_model.specs.Laws.{ModeByOwnRuns, OthersExtend, PostedIsSent};
+ghost use Rattle.serial_model.specs.Laws.{ModeByOwnRuns, NextAfterMark, OthersExtend, PostedIsSent};
 ghost use Rattle.serial_model.specs.Laws.{PostsAreNumbered, ReadIsOwedOrTold, ReadReplies};
 ghost use Rattle.serial_model.specs.Laws.{ReplyBehindExpiry, RunsLive, SentGrows};
 ghost use Rattle.serial_model.specs.Laws.{ToldEndsForCause, ToldIsDue, ToldIsSent};
@@ -52,6 +52,11 @@ pub fn law_end_is_sent()
 /// A connection's own runs alone change its mode.
 pub fn law_mode_by_own_runs()
     ensures { ModeByOwnRuns }
+{}
+
+/// What CLIENT CACHING says is in force for a Run exactly where it is its connection's Run before.
+pub fn law_next_after_mark()
+    ensures { NextAfterMark }
 {}
 
 /// What was sent only grows, and what an entry adds has the number of that entry.
@@ -144,7 +149,7 @@ pub fn law_due_is_sent()
 {}
 
 /// On the third protocol a connection is sent a push of each key that an entry tells it of, while
-/// no option of tracking is served.
+/// no redirection is served.
 pub fn law_due_is_pushed()
     ensures { DueIsPushed }
 {}

@@ -93,6 +93,8 @@ connection 1 ended 1 requests 1;connection 2 ended 1 requests 2;connection 3 end
 GET a;,GET a;,GET a; = 3 = 2 = Done = \
 connection 1 ended 1 requests 1;connection 2 ended 1 requests 1;
 GET a;,fail,GET a; = 1 = 0 = NetFault = connection 1 ended 1 requests 1;
+PING;QUIT;PING;,GET a; = 1 = 0 = Done = \
+connection 1 ended 2 requests 2;connection 2 ended 1 requests 1;
 GET a;,GET a;,idle,GET a;,GET a; = 16 = 0 = Done = \
 connection 1 ended 1 requests 1;connection 2 ended 1 requests 1;\
 connection 3 ended 1 requests 1;connection 4 ended 1 requests 1;";

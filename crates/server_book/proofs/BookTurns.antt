@@ -43,9 +43,9 @@ use Rattle.serial_model.proofs.Fresh.{fresh_is_first}
 use Rattle.serial_model.proofs.KeptTables.{is_table}
 use Rattle.serial_model.proofs.PlainActions.{none_dropped}
 use Rattle.serial_model.proofs.Turning.{admit_step, run_step, take_step, close_step}
-use Rattle.serial_model.proofs.Streams.{connected, not_ended, gives_is_runs, reads_is_runs}
-use Rattle.serial_model.proofs.Streams.{unsent_close_own, unsent_close_other, unsent_fresh}
-use Rattle.serial_model.proofs.Streams.{unsent_admit, unsent_take_own, unsent_take_other}
+use Rattle.serial_model.proofs.Streams.{admitted_id, runs_read, unsent_admit, unsent_fresh}
+use Rattle.serial_model.proofs.Streams.{unsent_close_own, unsent_close_other}
+use Rattle.serial_model.proofs.Streams.{unsent_taken, unsent_take_other}
 use Rattle.server_book.specs.Places.{Connection, fresh, gone, kept_mode}
 use Rattle.server_book.specs.Connections.{IsId, IsOpen, connection_at, with_connection, is_open}
 use Rattle.server_book.specs.Sendings.{end_posts}
@@ -105,12 +105,11 @@ module _ (l : Limits) (past : List Entry) (id : ℕ) where
   same_id : (id == id) ≡ true
   same_id = eq-eqb id id refl
 
-  pub kept_take : (m : ℕ) → runs_on l past id ≡ true
+  pub kept_take : (m : ℕ)
       → (let c = connection_of l past id in
       connection_of l (entry.Take id m ∷ past) id ≡ record c { queue = drop m c.queue })
   unfolding state
-  kept_take m on =
-      same_parts (unsent_take_own l past id id m (not_ended l past id on) same_id) refl refl
+  kept_take m = same_parts (unsent_taken l past id id m same_id) refl refl
 
   pub kept_close : (let c = connection_of l past id in
       connection_of l (entry.Close id ∷ past) id
@@ -163,9 +162,19 @@ some_open room id cs h on keeps = grind (arith, get_or-le-sum_by)
 
 module _ (l : Limits) (past : List Entry) (space : Space) (keys : TableState)
     (cs : List Connection) (k : Agrees l past space keys cs) where
-  -- a connection that may do something is there
-  pub is_id : (id : ℕ) → runs_on l past id ≡ true → IsId cs id
-  is_id id on = let both = connected l past id on in (both.0, omega (arith, both.1, k.count))
+  -- a connection that may do something was admitted
+  pub reads_there : (id : ℕ) → reads_on l past id ≡ true → is_admitted past id ≡ true
+  reads_there id on = (and_parts (is_admitted past id) _ on).0
+
+  pub gives_there : (id : ℕ) → gives_on l past id ≡ true → is_admitted past id ≡ true
+  gives_there id on = (and_parts (is_admitted past id) _ on).0
+
+  pub runs_there : (id : ℕ) → runs_on l past id ≡ true → is_admitted past id ≡ true
+  runs_there id on = (and_parts (is_admitted past id) _ on).0
+
+  -- and is there
+  pub is_id : (id : ℕ) → is_admitted past id ≡ true → IsId cs id
+  is_id id on = let both = admitted_id past id on in (both.0, omega (arith, both.1, k.count))
 
   -- how far it has ended
   pub stands_at : (i : ℕ) → i < length cs
@@ -175,7 +184,8 @@ module _ (l : Limits) (past : List Entry) (space : Space) (keys : TableState)
       ∙ ap (λ (c : Connection). c.standing) (k.each (i + 1) (omega arith, omega (arith, lt)))
 
   -- what is kept of it
-  pub kept_of : (id : ℕ) → runs_on l past id ≡ true → connection_at cs id ≡ connection_of l past id
+  pub kept_of : (id : ℕ) → is_admitted past id ≡ true
+      → connection_at cs id ≡ connection_of l past id
   kept_of id on = k.each id (is_id id on)
 
   -- the new connection has nothing
@@ -222,12 +232,6 @@ module _ (l : Limits) (past : List Entry) (space : Space) (keys : TableState)
   abbrev pub took : ℕ → ℕ → Connection
   took id m = let c = connection_at cs id in record c { queue = drop m c.queue }
 
-  pub runs_gives : (id : ℕ) → gives_on l past id ≡ true → runs_on l past id ≡ true
-  runs_gives id on = sym (gives_is_runs l past id) ∙ on
-
-  pub runs_reads : (id : ℕ) → reads_on l past id ≡ true → runs_on l past id ≡ true
-  runs_reads id on = sym (reads_is_runs l past id) ∙ on
-
   pub agrees_take : (id m : ℕ) → gives_on l past id ≡ true
       → (take m (unsent l id past) ≡ [] → ⊥)
       → Agrees l (entry.Take id m ∷ past) space keys (with_connection cs id (took id m))
@@ -237,30 +241,30 @@ module _ (l : Limits) (past : List Entry) (space : Space) (keys : TableState)
     space_is = k.space_is;
     table_is = k.table_is;
     count = length-set cs (id - 1) (took id m) ∙ k.count;
-    each = each_with (entry.Take id m ∷ past) id (took id m) (is_id id (runs_gives id on))
+    each = each_with (entry.Take id m ∷ past) id (took id m) (is_id id (gives_there id on))
         (ap (λ (c : Connection). record c { queue = drop m c.queue })
-        (kept_of id (runs_gives id on)) ∙ sym (kept_take l past id m (runs_gives id on)))
+        (kept_of id (gives_there id on)) ∙ sym (kept_take l past id m))
         (λ other ne. kept_take_other l past other id m ne);
   }
 
   pub open_at : (id : ℕ) → reads_on l past id ≡ true
       → keeps_bytes (connection_at cs id).standing ≡ true
   open_at id on =
-      ap (λ (c : Connection). keeps_bytes c.standing) (kept_of id (runs_reads id on))
+      ap (λ (c : Connection). keeps_bytes c.standing) (kept_of id (reads_there id on))
       ∙ (and_parts (is_admitted past id) _ on).1
 
   -- one that runs is open, and its mode is kept
   pub opened : (id : ℕ) → runs_on l past id ≡ true → IsOpen cs id
-  opened id on = (is_id id on, open_at id (reads_is_runs l past id ∙ on))
+  opened id on = (is_id id (runs_there id on), open_at id (runs_read l past id on))
 
   pub mode_of : (id : ℕ) → runs_on l past id ≡ true
       → (connection_at cs id).mode ≡ (state l past).modes id
   mode_of id on =
-      let c = kept_of id on in
+      let c = kept_of id (runs_there id on) in
       ap (λ (c : Connection). c.mode) c
       ∙ live_mode ((state l past).standing id) ((state l past).modes id)
       (sym (ap (λ (c : Connection). keeps_bytes c.standing) c)
-      ∙ open_at id (reads_is_runs l past id ∙ on))
+      ∙ open_at id (runs_read l past id on))
 
   abbrev pub closed : ℕ → Connection
   closed id = gone (connection_at cs id)
@@ -275,8 +279,8 @@ module _ (l : Limits) (past : List Entry) (space : Space) (keys : TableState)
     space_is = k.space_is;
     table_is = refl;
     count = length-set cs (id - 1) (closed id) ∙ k.count;
-    each = each_with (entry.Close id ∷ past) id (closed id) (is_id id (runs_reads id on))
-        (ap gone (kept_of id (runs_reads id on)) ∙ sym (kept_close l past id))
+    each = each_with (entry.Close id ∷ past) id (closed id) (is_id id (reads_there id on))
+        (ap gone (kept_of id (reads_there id on)) ∙ sym (kept_close l past id))
         (λ other ne. kept_close_other l past other id ne);
   }
 
@@ -311,21 +315,24 @@ pub table_close : (l : Limits) (past : List Entry) (id : ℕ)
 unfolding state
 table_close l past id = refl
 
--- an entry after which each connection has ended as far as before
+-- an entry after which those can be closed that could before
 pub room_kept : (l : Limits) (past : List Entry) (e : Entry) (closable : ℕ) (space : Space)
     (keys : TableState) (cs : List Connection) → Agrees l past space keys cs
     → (then : Space) (left : TableState) (ds : List Connection)
     → Agrees l (e ∷ past) then left ds → length ds ≡ length cs
-    → ((i : ℕ) → (state l (e ∷ past)).standing i ≡ (state l past).standing i)
+    → ((i : ℕ) → keeps_bytes ((state l (e ∷ past)).standing i)
+    ≡ keeps_bytes ((state l past).standing i))
     → HasRoom closable cs → HasRoom closable ds
 room_kept l past e closable space keys cs k then left ds a same stand h =
     let within = open_within cs ds same (λ i lt on.
-    ap keeps_bytes (stands_at l past space keys cs k i lt ∙ sym (stand (i + 1))
-    ∙ sym (stands_at l (e ∷ past) then left ds a i (omega (arith, lt, same)))) ∙ on) in
+    ap keeps_bytes (stands_at l past space keys cs k i lt) ∙ sym (stand (i + 1))
+    ∙ sym (ap keeps_bytes (stands_at l (e ∷ past) then left ds a i (omega (arith, lt, same))))
+    ∙ on) in
     omega (arith, h, within)
 
 pub take_stands : (l : Limits) (past : List Entry) (id m i : ℕ)
-    → (state l (entry.Take id m ∷ past)).standing i ≡ (state l past).standing i
+    → keeps_bytes ((state l (entry.Take id m ∷ past)).standing i)
+    ≡ keeps_bytes ((state l past).standing i)
 unfolding state
 take_stands l past id m i = refl
 

@@ -1,11 +1,12 @@
 -- Telling the holders of one key after another.
 use Rattle.std.proofs.Common.{◌≡◌, ◌+◌, ◌<◌, ℕ, List, [], ◌∷◌, ◌++◌, length, take, refl, ap, sym}
-use Rattle.std.proofs.Common.{◌∙◌, arith, append-nil, append_assoc, Bool, false, slice_index_or}
-use Rattle.std.specs.Prelude.{◌||◌}
+use Rattle.std.proofs.Common.{◌∙◌, arith, append-nil, append_assoc, Bool, true, false, cond}
+use Rattle.std.proofs.Common.{slice_index_or, Option, Some, None, inl, inr, eq-eqb, ne_eqb}
+use Rattle.std.specs.Prelude.{◌||◌, ◌&&◌, ◌==◌, not}
 use Prim.Native.Nat.{zero, suc}
 use Rattle.std.specs.Str.{bytes_eq}
 use Rattle.std.proofs.lemmas.Slice.Eq.{bytes_eq-Decides}
-use Rattle.std.proofs.lemmas.Bool.{or_parts}
+use Rattle.std.proofs.lemmas.Bool.{cases_eq, or_parts}
 use Rattle.track_table.specs.declared.table.Held.{Held}
 use Rattle.track_table.specs.Places.{nobody}
 use Rattle.track_table.specs.Table.{holders_of, without_key}
@@ -14,10 +15,13 @@ use Rattle.serial_model.specs.History.{Sending}
 use Rattle.serial_model.specs.Plain.{pushes}
 use Rattle.serial_model.specs.Tracking.{AreApart, Invalidation, drop_group, group, told_of}
 use Rattle.serial_model.proofs.KeyHolders.{keys_apart}
-use Rattle.server_book.specs.Connections.{ConnectionsState}
-use Rattle.server_book.specs.Sendings.{is_pushed, with_sendings}
-use Rattle.server_book.proofs.Sendings.{AreTo, pushed_same, pushes_same, pushes_there}
-use Rattle.server_book.proofs.Sendings.{sendings_append}
+use Rattle.track_modes.specs.ModeState.{is_noloop}
+use Rattle.server_book.specs.Connections.{ConnectionsState, connection_at}
+use Rattle.server_book.specs.Places.{Connection}
+use Rattle.server_book.specs.RunSendings.{passes, unpassed}
+use Rattle.server_book.specs.Sendings.{is_pushed, is_told, passed_over, with_sendings}
+use Rattle.server_book.proofs.Sendings.{AreTo, pushes_same, pushes_there, sendings_append}
+use Rattle.server_book.proofs.Sendings.{told_same}
 
 -- the holders of each key, by a table that stays
 abbrev pub each_row : List (List ℕ) → List Held → List Held
@@ -75,33 +79,67 @@ pushes_append : (test : ℕ → Bool) (xs ys : List Invalidation)
 pushes_append test [] ys = refl
 pushes_append test (x ∷ xs) ys = grind (arith, append_assoc, pushes_append test xs ys)
 
--- the holders of row after row are told
-module _ (n : ℕ) (old now : ConnectionsState) (rows : List Held) (k : ℕ) where
+-- the holders of row after row are told, but the one that is passed over
+module _ (n : ℕ) (but : Option ℕ) (old now : ConnectionsState) (rows : List Held) (k : ℕ) where
   abbrev pub so_far : List (ℕ × Sending)
-  so_far = pushes (is_pushed old.items) (drop_group (take k rows))
+  so_far = pushes (is_told but old.items) (drop_group (take k rows))
 
   pub so_far_there : AreTo old.items so_far
-  so_far_there = pushes_there old.items (drop_group (take k rows))
+  so_far_there = pushes_there but old.items (drop_group (take k rows))
 
   -- one row more
   pub told_more : (key ids : List ℕ) (next : ConnectionsState) → now ≡ with_sendings n so_far old
       → k < length rows
       → key ≡ (slice_index_or rows k nobody).key
       → ids ≡ (slice_index_or rows k nobody).holders
-      → next ≡ with_sendings n (pushes (is_pushed now.items) (told_of key ids)) now
+      → next ≡ with_sendings n (pushes (is_told but now.items) (told_of key ids)) now
       → next ≡ with_sendings n
-      (pushes (is_pushed old.items) (drop_group (take (k + 1) rows))) old
+      (pushes (is_told but old.items) (drop_group (take (k + 1) rows))) old
   told_more key ids next told lt at is sent =
-      let test = is_pushed old.items in
+      let test = is_told but old.items in
       sent
-      ∙ ap (λ (s : ConnectionsState). with_sendings n (pushes (is_pushed s.items)
+      ∙ ap (λ (s : ConnectionsState). with_sendings n (pushes (is_told but s.items)
       (told_of key ids)) s) told
       ∙ ap (λ x. with_sendings n x (with_sendings n so_far old))
-      (pushes_same (is_pushed (with_sendings n so_far old).items) test (told_of key ids)
-      (pushed_same n so_far old so_far_there))
+      (pushes_same (is_told but (with_sendings n so_far old).items) test (told_of key ids)
+      (told_same n so_far old so_far_there but))
       ∙ sym (sendings_append n so_far (pushes test (told_of key ids)) old)
       ∙ ap (λ x. with_sendings n x old)
       (sym (pushes_append test (drop_group (take k rows)) (told_of key ids))
       ∙ ap (pushes test) (ap (λ x. drop_group (take k rows) ++ told_of x ids) at
       ∙ ap (λ x. drop_group (take k rows) ++ told_of (slice_index_or rows k nobody).key x) is
       ∙ sym (rows_next rows k lt)))
+
+-- and nobody is passed over
+pub rows_there : (old : ConnectionsState) (rows : List Held) (k : ℕ)
+    → AreTo old.items (pushes (is_pushed old.items) (drop_group (take k rows)))
+rows_there old rows k = pushes_there None old.items (drop_group (take k rows))
+
+-- ---- under NOLOOP a connection is passed over
+
+pushes_unpassed : (test passed : ℕ → Bool) (is : List Invalidation)
+    → pushes test (unpassed passed is) ≡ pushes (λ c. test c && not (passed c)) is
+pushes_unpassed test passed [] = refl
+pushes_unpassed test passed (i ∷ is) = grind (arith, pushes_unpassed test passed is)
+
+told_if : (cs : List Connection) (id c : ℕ) (b : Bool)
+    → is_told (cond b (Some id) None) cs c
+    ≡ cond b (is_pushed cs c && not (id == c)) (is_pushed cs c)
+told_if cs id c true = refl
+told_if cs id c false = refl
+
+passed_if : (noloop : ℕ → Bool) (id c : ℕ) (on b : Bool) → noloop id ≡ b
+    → cond b (on && not (id == c)) on ≡ (on && not ((id == c) && noloop c))
+passed_if noloop id c on b is = elim (cases_eq id c) [
+  | inl e ↦ grind (arith, eq-eqb id c e)
+  | inr ne ↦ grind (arith, ne_eqb id c ne)
+]
+
+pub told_unpassed : (cs : List Connection) (id : ℕ) (is : List Invalidation)
+    → pushes (is_told (passed_over cs id) cs) is
+    ≡ pushes (is_pushed cs) (unpassed (passes cs id) is)
+told_unpassed cs id is =
+    let noloop : ℕ → Bool = λ c. is_noloop (connection_at cs c).mode.tracking in
+    pushes_same (is_told (passed_over cs id) cs) (λ c. is_pushed cs c && not (passes cs id c)) is
+    (λ c. told_if cs id c (noloop id) ∙ passed_if noloop id c (is_pushed cs c) (noloop id) refl)
+    ∙ sym (pushes_unpassed (is_pushed cs) (passes cs id) is)

@@ -1,38 +1,45 @@
 -- A Run sends what its entry sends, and leaves what the history says.
 use Rattle.std.proofs.Common.{◌≡◌, ◌+◌, ◌<◌, ◌≤◌, ℕ, List, [], ◌∷◌, ◌++◌, length, sym, ap, subst}
-use Rattle.std.proofs.Common.{Option}
-use Rattle.std.proofs.Common.{Some, None, ◌∙◌, refl, arith, true, false, append-nil}
-use Rattle.std.proofs.Common.{length-set}
+use Rattle.std.proofs.Common.{Bool, Option, Some, None, ◌∙◌, refl, arith, true, false, cond}
+use Rattle.std.proofs.Common.{append-nil, length-set}
 use Rattle.std.proofs.Common.{append_assoc, eq-eqb, ne_eqb, inl, inr}
-use Rattle.std.specs.Prelude.{◌==◌, nat_lt, nat_le, ◌&&◌}
+use Rattle.std.specs.Prelude.{◌==◌, nat_lt, nat_le, ◌&&◌, ◌-◌, not}
 use Rattle.std.specs.Option.{option_map_or}
-use Rattle.std.proofs.lemmas.Bool.{cases_eq, eqb-true}
+use Rattle.std.proofs.lemmas.Bool.{cases_eq}
 use Rattle.std.proofs.lemmas.Bool.Decides.{nat_tests}
 use Rattle.std.proofs.lemmas.Grind.{flat_map-append}
 use Rattle.command_words.specs.Space.{Space}
 use Rattle.track_table.specs.declared.table.Held.{Held}
-use Rattle.track_table.specs.Table.{TableState, without_keys}
-use Rattle.track_modes.specs.ModeState.{ModeState, is_on as is_tracking}
+use Rattle.command_words.specs.declared.command.Signalled.{Signalled}
+use Rattle.command_words.specs.declared.command.Signalled.TheVariants.{Keys, All}
+use Rattle.track_table.specs.Table.{TableState, dropped, kept, without_connection, without_keys}
+use Rattle.track_modes.specs.Commands.{spent_mode}
+use Rattle.track_modes.specs.ModeState.{ModeState, is_noloop, is_on as is_tracking}
 use Rattle.serial_model.specs.declared.history.Limits.{Limits}
 use Rattle.serial_model.specs.declared.history.Entry.{Entry}
 use Rattle.serial_model.specs.declared.history.Entry.TheVariants as entry
-use Rattle.serial_model.specs.Tracking.{Invalidation, group, ids_where}
+use Rattle.serial_model.specs.Modes.{is_quitting}
+use Rattle.serial_model.specs.Tracking.{Invalidation, drop_group, group, ids_where}
 use Rattle.serial_model.specs.declared.standing.Standing.{Standing}
+use Rattle.serial_model.specs.declared.standing.Standing.TheVariants.{Live, Quit}
 use Rattle.serial_model.specs.State.{State, is_live, is_on, keeps_bytes}
-use Rattle.serial_model.specs.Actions.{Action, modes_then, rows_then, replies, to_one}
+use Rattle.serial_model.specs.Actions.{Action, is_passed, modes_then, rows_then, replies, to_one}
 use Rattle.serial_model.specs.Actions.{tracks as tracks_in, is_overgrown}
-use Rattle.serial_model.specs.Actions.{Sending, Message, spelled}
+use Rattle.serial_model.specs.Actions.{Sending, Message, End, spelled}
 use Rattle.serial_model.specs.History.{runs_on, latest, has_ended, unsent, posted, state}
 use Rattle.serial_model.specs.History.{sends, sent_to, sent_bytes}
-use Rattle.serial_model.specs.History.{posts_of, run_action, table, expired}
-use Rattle.serial_model.specs.Plain.{pushes, tests_before, tests_then, told_then}
-use Rattle.serial_model.specs.Plain.{takes_pushes}
+use Rattle.serial_model.specs.History.{posts_of, run_action, table, expired, is_quit}
+use Rattle.serial_model.specs.History.{table_grown}
+use Rattle.serial_model.specs.Plain.{pushes, quit_end, signalled_group, tests_before, tests_then}
+use Rattle.serial_model.specs.Plain.{takes_pushes, told_then}
 use Rattle.serial_model.proofs.Counts.{admitted_is, on_is}
+use Rattle.serial_model.proofs.Each.{in_append}
 use Rattle.serial_model.proofs.Fresh.{action_sends_off}
 use Rattle.serial_model.proofs.PlainActions.{run_sends}
 use Rattle.serial_model.proofs.ModeSteps.{mode_own, mode_other}
-use Rattle.serial_model.proofs.StateSteps.{run_stands, run_table, run_space, run_ended}
-use Rattle.serial_model.proofs.Streams.{run_bytes, unsent_run, unsent_ended}
+use Rattle.serial_model.proofs.StateSteps.{run_stands_other, run_stands_own, run_table, run_space}
+use Rattle.serial_model.proofs.Streams.{keeps_run, not_ended, run_bytes, unsent_run}
+use Rattle.serial_model.proofs.Streams.{unsent_run_ended}
 use Rattle.serial_model.proofs.TableSize.{table_within, without_keys_within, without_within}
 use Rattle.serial_model.proofs.Tables.{sent_to-append}
 use Rattle.server_book.specs.Places.{Connection, kept_mode}
@@ -41,7 +48,9 @@ use Rattle.server_book.specs.declared.plan.Plan.{Plan}
 use Rattle.server_book.specs.Connections.{ConnectionsState, IsId, connection_at}
 use Rattle.server_book.specs.Connections.{is_there, is_open, IsOpen}
 use Rattle.server_book.specs.Plans.{signals_of, memory_of, told_by, kept_by, becomes, mode_by}
-use Rattle.server_book.specs.RunSendings.{expiry_told, reply_sent, command_told, settled, switched}
+use Rattle.server_book.specs.Plans.{quits, remembered_by}
+use Rattle.server_book.specs.RunSendings.{command_told, end_by, expiry_told, passes, reply_sent}
+use Rattle.server_book.specs.RunSendings.{settled, settled_one, standing_by, unpassed}
 use Rattle.server_book.specs.Sendings.{is_pushed, tracking_ids}
 use Rattle.server_book.specs.Sendings.{tracks as tracks_of}
 use Rattle.server_book.specs.BookState.{Agrees, connection_of}
@@ -50,7 +59,11 @@ use Rattle.server_book.proofs.Sendings.{at_same, at_other, AreTo, sent_at, more,
 use Rattle.server_book.proofs.Sendings.{test_kept}
 use Rattle.server_book.proofs.Sendings.{length_queued, length_sendings, posts_sendings, pushed_same}
 use Rattle.server_book.proofs.Sendings.{pushes_same, pushes_there, ids_same, is_there_id}
-use Rattle.server_book.proofs.BookTurns.{is_id, live_mode, mode_of, opened, same_kept, same_parts}
+use Rattle.server_book.proofs.BookTurns.{is_id, live_mode, mode_of, opened, runs_there, same_kept}
+use Rattle.server_book.proofs.BookTurns.{same_parts}
+
+is_live_of : (x : Standing) → not (is_live x) ≡ false → x ≡ Live
+is_live_of x h = grind arith
 
 pub posts_append : (n : ℕ) (xs ys : List (ℕ × Sending))
     → posts_of n (xs ++ ys) ≡ posts_of n xs ++ posts_of n ys
@@ -62,32 +75,57 @@ pub bytes_append : (n c : ℕ) (xs ys : List (ℕ × Sending))
     ≡ sent_bytes (sent_to n c xs) ++ sent_bytes (sent_to n c ys)
 bytes_append n c xs ys = grind (arith, sent_to-append, flat_map-append)
 
--- ---- a mode that is switched
+-- ---- a connection that is settled
 
-module _ (id : ℕ) (new : Option ModeState) (st : ConnectionsState) where
+module _ (id : ℕ) (deed : Deed) (st : ConnectionsState) where
   abbrev then : ConnectionsState
-  then = switched id new st
+  then = settled id deed st
 
-  pub length_switched : length then.items ≡ length st.items
-  length_switched = grind (arith, length-set)
+  pub length_settled : length then.items ≡ length st.items
+  length_settled = length-set st.items (id - 1) (settled_one deed (connection_at st.items id))
 
-  pub posts_switched : then.posts ≡ st.posts
-  posts_switched = grind arith
+  pub settled_own : IsId st.items id
+      → connection_at then.items id ≡ settled_one deed (connection_at st.items id)
+  settled_own on = at_same st.items id (settled_one deed (connection_at st.items id)) on
 
-  pub switched_own : IsId st.items id
-      → (let c = connection_at st.items id in
-      connection_at then.items id ≡ record c { mode = option_map_or (λ m. m) new c.mode })
-  switched_own on = grind (arith, at_same)
-
-  pub switched_other : (i : ℕ) → 0 < id → 0 < i → (id ≡ i → ⊥)
+  pub settled_other : (i : ℕ) → 0 < id → 0 < i → (id ≡ i → ⊥)
       → connection_at then.items i ≡ connection_at st.items i
-  switched_other i some there ne = grind (arith, at_other)
+  settled_other i some there ne =
+      at_other st.items id i (settled_one deed (connection_at st.items id)) some there ne
 
--- ---- a deed that leaves a mode tells nobody
+-- ---- a deed that leaves another mode tells nobody
 
-quiet_told : (limit id : ℕ) (deed : Deed) (mode : ModeState) (tracking : List ℕ) (rows : List Held)
-    → length rows ≤ limit → becomes deed ≡ Some mode → told_by limit id deed tracking rows ≡ []
-quiet_told limit id deed mode tracking rows short is = grind (arith, short_dropped, without_within)
+quiet_told : (limit id : ℕ) (deed : Deed) (mode : ModeState) (passed : ℕ → Bool)
+    (tracking : List ℕ) (rows : List Held)
+    → length rows ≤ limit → becomes deed ≡ Some mode
+    → told_by limit id deed passed tracking rows ≡ []
+quiet_told limit id deed mode passed tracking rows short is =
+    grind (arith, short_dropped, without_within)
+
+-- ---- who is passed over
+
+filter_same : (f g : ℕ → Bool) (told : List Invalidation) → ((c : ℕ) → f c ≡ g c)
+    → unpassed f told ≡ unpassed g told
+filter_same f g [] same = refl
+filter_same f g (i ∷ told) same = grind (arith, same i.to, filter_same f g told same)
+
+signalled_same : (sig : Signalled) (f g : ℕ → Bool) (tracking : List ℕ) (rows : List Held)
+    → ((c : ℕ) → f c ≡ g c)
+    → signalled_group sig f tracking rows ≡ signalled_group sig g tracking rows
+signalled_same (Keys keys) f g tracking rows same = filter_same f g (group keys rows) same
+signalled_same All f g tracking rows same = refl
+
+passed_one : (id c : ℕ) (f g : ℕ → Bool) → f id ≡ g id
+    → ((id == c) && f c) ≡ ((id == c) && g c)
+passed_one id c f g same = elim (cases_eq id c) [
+  | inl e ↦ ap (λ b. (id == c) && b) (subst (λ x. f x ≡ g x) e same)
+  | inr ne ↦ grind (arith, ne_eqb id c ne)
+]
+
+-- the mark that is spent is no part of who takes pushes
+spent_takes : (on : ℕ → Bool) (m : ModeState) (c : ℕ)
+    → takes_pushes on (spent_mode m) c ≡ takes_pushes on m c
+spent_takes on m c = refl
 
 module _ (l : Limits) (past : List Entry) (space : Space) (keys : TableState)
     (cs : List Connection) (k : Agrees l past space keys cs) (m : ℕ) (gone : List (List ℕ))
@@ -129,7 +167,7 @@ module _ (l : Limits) (past : List Entry) (space : Space) (keys : TableState)
       ∙ ap (pushes (tests_before now)) first_is
 
   pub early_to : AreTo cs early
-  early_to = pushes_there cs first_told
+  early_to = pushes_there None cs first_told
 
   module _ (n : ℕ) where
     abbrev pub first : ConnectionsState
@@ -159,7 +197,9 @@ module _ (l : Limits) (past : List Entry) (space : Space) (keys : TableState)
         (remembers : memory_of plan.deed ≡ (run_action id words m (state l past)).effect.memory)
         (becoming : mode_by plan.deed ((state l past).modes id)
         ≡ (run_action id words m (state l past)).effect.mode)
-        (speaks : plan.proto ≡ (run_action id words m (state l past)).effect.mode.proto) where
+        (speaks : plan.proto ≡ (run_action id words m (state l past)).effect.mode.proto)
+        (ending : quits plan.deed
+        ≡ is_quitting (run_action id words m (state l past)).effect.ending) where
       abbrev t : Action
       t = run_action id words m now
 
@@ -167,7 +207,7 @@ module _ (l : Limits) (past : List Entry) (space : Space) (keys : TableState)
       run = entry.Run id words m
 
       own_there : IsId cs id
-      own_there = is_id l past space keys cs k id on
+      own_there = is_id l past space keys cs k id (runs_there l past space keys cs k id on)
 
       on_first : IsId first.items id
       on_first = (own_there.0, let le = own_there.1 in omega (arith, le, length_first))
@@ -234,38 +274,89 @@ module _ (l : Limits) (past : List Entry) (space : Space) (keys : TableState)
 
       -- those whom the deed tells are those whom the Run tells behind its reply
       abbrev pub told : List Invalidation
-      told = told_by left.limit id plan.deed (tracking_ids second.items) left.rows
+      told = told_by left.limit id plan.deed (passes second.items id) (tracking_ids second.items)
+          left.rows
+
+      own_mode : kept_mode (now.standing id) (now.modes id) ≡ now.modes id
+      own_mode =
+          sym (ap (λ (c : Connection). c.mode) (k.each id own_there))
+          ∙ mode_of l past space keys cs k id on
+
+      passes_is : (c : ℕ) → passes second.items id c ≡ is_passed t now c
+      passes_is c =
+          passed_one id c (λ x. is_noloop (connection_at second.items x).mode.tracking)
+          (λ x. is_noloop (now.modes x).tracking)
+          (ap (λ (x : ModeState). is_noloop x.tracking)
+          ((second_parts id own_there).0 ∙ own_mode))
 
       told_is : told ≡ told_then l t now
-      told_is = grind (arith, left_is, tracking_is)
+      told_is =
+          ap (λ x. x ++ drop_group (dropped left.limit (remembered_by id plan.deed left.rows)))
+          (signalled_same (signals_of plan.deed) (passes second.items id) (is_passed t now)
+          (tracking_ids second.items) left.rows passes_is)
+          ∙ grind (arith, left_is, tracking_is)
 
       kept_is : kept_by left.limit id plan.deed left.rows ≡ table l (run ∷ past)
-      kept_is = grind (arith, left_is, run_table)
+      kept_is =
+          ap (λ b. cond b
+          (without_connection id (kept left.limit (remembered_by id plan.deed left.rows)))
+          (kept left.limit (remembered_by id plan.deed left.rows))) ending
+          ∙ ap (λ rows. cond (is_quit words) (without_connection id rows) rows) grown_is
+          ∙ sym (run_table l past id m words on)
+        where
+          grown_is : kept left.limit (remembered_by id plan.deed left.rows)
+              ≡ kept l.table_max (table_grown l past id words m)
+          grown_is = grind (arith, left_is)
 
+      abbrev pub pushed : List (ℕ × Sending)
+      pushed = pushes (is_pushed second.items) told
+
+      -- what the deed sends: the pushes, and the end of its connection
       abbrev pub sent : List (ℕ × Sending)
-      sent = pushes (is_pushed second.items) told
+      sent = pushed ++ end_by id plan.deed
+
+      end_there : (b : Bool) → AreTo second.items (cond b ((id, End) ∷ []) [])
+      end_there true =
+          ((own_there.0, let le = own_there.1 in omega (arith, le, length_second)), tt)
+      end_there false = tt
 
       sent_there : AreTo second.items sent
-      sent_there = pushes_there second.items told
+      sent_there =
+          in_append (λ (s : ℕ × Sending). IsId second.items s.0) pushed (end_by id plan.deed)
+          (pushes_there None second.items told) (end_there (quits plan.deed))
 
-      same_mode : (c : ℕ) → t.effect.mode ≡ now.modes id → modes_then t now c ≡ now.modes c
-      same_mode c e = grind (arith, eqb-true)
+      -- a mark that is spent, or a connection that is another, leaves who takes pushes
+      same_takes : (c : ℕ) → t.effect.mode ≡ spent_mode (now.modes id)
+          → takes_pushes (is_on now) (now.modes c) c
+          ≡ takes_pushes (is_on now) (modes_then t now c) c
+      same_takes c e = elim (cases_eq id c) [
+        | inl same ↦
+            ap (λ x. takes_pushes (is_on now) (now.modes x) c) (sym same)
+            ∙ sym (ap (λ b. takes_pushes (is_on now) (cond b t.effect.mode (now.modes c)) c)
+            (eq-eqb id c same) ∙ ap (λ x. takes_pushes (is_on now) x c) e)
+        | inr ne ↦
+            sym (ap (λ b. takes_pushes (is_on now) (cond b t.effect.mode (now.modes c)) c)
+            (ne_eqb id c ne))
+      ]
 
       told_then_is : (b : Option ModeState) → becomes plan.deed ≡ b
           → pushes (tests_before now) told ≡ pushes (tests_then t now) told
       told_then_is None is =
           pushes_same (tests_before now) (tests_then t now) told
-          (λ c. ap (λ x. takes_pushes (is_on now) x c) (sym (same_mode c
-          (sym becoming ∙ ap (λ b. option_map_or (λ x. x) b (now.modes id)) is))))
+          (λ c. same_takes c (sym becoming
+          ∙ ap (λ b. option_map_or (λ x. x) b (spent_mode (now.modes id))) is))
       told_then_is (Some mode) is =
-          let none = quiet_told left.limit id plan.deed mode (tracking_ids second.items) left.rows
-          short is in
+          let none = quiet_told left.limit id plan.deed mode (passes second.items id)
+          (tracking_ids second.items) left.rows short is in
           ap (pushes (tests_before now)) none ∙ sym (ap (pushes (tests_then t now)) none)
 
-      sent_is : sent ≡ pushes (tests_then t now) (told_then l t now)
-      sent_is =
+      pushed_is : pushed ≡ pushes (tests_then t now) (told_then l t now)
+      pushed_is =
           pushes_same (is_pushed second.items) (tests_before now) told second_test
           ∙ told_then_is (becomes plan.deed) refl ∙ ap (pushes (tests_then t now)) told_is
+
+      end_is : end_by id plan.deed ≡ quit_end t
+      end_is = ap (λ b. cond b ((id, End) ∷ []) []) ending
 
       abbrev pub after : ConnectionsState
       after = command_told n id plan left second
@@ -276,12 +367,12 @@ module _ (l : Limits) (past : List Entry) (space : Space) (keys : TableState)
       there_after : IsId after.items id
       there_after = (own_there.0, let le = own_there.1 in omega (arith, le, length_after))
 
-      -- and once the connection has its new mode
+      -- and once the connection has its new mode, or has ended
       abbrev pub final : ConnectionsState
       final = settled id plan.deed after
 
       pub length_final : length final.items ≡ length cs
-      length_final = length_switched id (becomes plan.deed) after ∙ length_after
+      length_final = length_settled id plan.deed after ∙ length_after
 
       -- ---- what the Run sends, from the same parts
 
@@ -295,11 +386,13 @@ module _ (l : Limits) (past : List Entry) (space : Space) (keys : TableState)
       sends_are : sends l run now ≡ (early ++ reply ∷ []) ++ sent
       sends_are =
           run_sends l past id words m on
-          ∙ ap (λ x. (pushes (tests_before now) (group t.expired now.table) ++ x)
-          ++ pushes (tests_then t now) (told_then l t now)) reply_is
-          ∙ ap (λ x. (x ++ reply ∷ []) ++ pushes (tests_then t now) (told_then l t now))
-          (sym early_is)
-          ∙ ap (λ x. (early ++ reply ∷ []) ++ x) (sym sent_is)
+          ∙ ap (λ x. ((pushes (tests_before now) (group t.expired now.table) ++ x)
+          ++ pushes (tests_then t now) (told_then l t now)) ++ quit_end t) reply_is
+          ∙ ap (λ x. ((x ++ reply ∷ []) ++ pushes (tests_then t now) (told_then l t now))
+          ++ quit_end t) (sym early_is)
+          ∙ ap (λ x. ((early ++ reply ∷ []) ++ x) ++ quit_end t) (sym pushed_is)
+          ∙ ap (λ x. ((early ++ reply ∷ []) ++ pushed) ++ x) (sym end_is)
+          ∙ append_assoc (early ++ reply ∷ []) pushed (end_by id plan.deed)
 
       bytes_are : (c : ℕ) → run_bytes l past id words m c
           ≡ (sent_bytes (sent_to n c early) ++ sent_bytes (sent_to n c (reply ∷ [])))
@@ -315,10 +408,10 @@ module _ (l : Limits) (past : List Entry) (space : Space) (keys : TableState)
       unsent_after c = elim (has_ended l c past) as (λ b. has_ended l c past ≡ b
           → unsent l c (run ∷ past) ≡ unsent l c past ++ run_bytes l past id words m c) [
             | false ↦ λ h. unsent_run l past c id m words h
-            | true ↦ λ h. unsent_ended l (run ∷ past) c (run_ended l past c id m words ∙ h)
-                ∙ sym (ap (λ x. x ++ run_bytes l past id words m c) (unsent_ended l past c h)
-                ∙ ap sent_bytes
-                (action_sends_off (is_overgrown l t now) l t now (length past + 1) c (off c h)))
+            | true ↦ λ h. unsent_run_ended l past c id m words h
+                ∙ sym (ap (λ x. unsent l c past ++ sent_bytes x)
+                (action_sends_off (is_overgrown l t now) l t now (length past + 1) c (off c h))
+                ∙ append-nil (unsent l c past))
           ] refl
 
       own_bytes : sent_bytes (sent_to n id (reply ∷ [])) ≡ message
@@ -351,24 +444,15 @@ module _ (l : Limits) (past : List Entry) (space : Space) (keys : TableState)
             ∙ (opened l past space keys cs k id on).1,
       )
 
-      own_mode : kept_mode (now.standing id) (now.modes id) ≡ now.modes id
-      own_mode =
-          sym (ap (λ (c : Connection). c.mode) (k.each id own_there))
-          ∙ mode_of l past space keys cs k id on
-
       own_is : connection_at final.items id
           ≡ (let c = connection_of l past id in
           record {
             queue = ((c.queue ++ sent_bytes (sent_to n id early)) ++ message)
                 ++ sent_bytes (sent_to n id sent);
-            standing = c.standing;
+            standing = standing_by plan.deed c.standing;
             mode = mode_by plan.deed c.mode;
           })
-      own_is =
-          switched_own id (becomes plan.deed) after there_after
-          ∙ ap (λ (c : Connection). record c {
-            mode = option_map_or (λ x. x) (becomes plan.deed) c.mode;
-          }) after_own
+      own_is = settled_own id plan.deed after there_after ∙ ap (settled_one plan.deed) after_own
 
       own_queue : ((unsent l id past ++ sent_bytes (sent_to n id early)) ++ message)
           ++ sent_bytes (sent_to n id sent) ≡ unsent l id (run ∷ past)
@@ -380,7 +464,7 @@ module _ (l : Limits) (past : List Entry) (space : Space) (keys : TableState)
             queue = (c.queue ++ sent_bytes (sent_to n i early)) ++ sent_bytes (sent_to n i sent);
           })
       other_is i there ne =
-          switched_other id (becomes plan.deed) after i own_there.0 there.0 ne
+          settled_other id plan.deed after i own_there.0 there.0 ne
           ∙ after_at i there
           ∙ ap (λ c. more c (sent_bytes (sent_to n i sent)))
           (second_other i there.0 ne ∙ first_at i there)
@@ -391,23 +475,29 @@ module _ (l : Limits) (past : List Entry) (space : Space) (keys : TableState)
       other_queue i ne =
           grind (arith, append_assoc, append-nil, unsent_after, bytes_are, other_bytes)
 
+      live_is : now.standing id ≡ Live
+      live_is = is_live_of (now.standing id) (not_ended l past id on)
+
+      stands_own : standing_by plan.deed (now.standing id) ≡ (state l (run ∷ past)).standing id
+      stands_own =
+          ap (standing_by plan.deed) live_is ∙ ap (λ b. cond b Quit Live) ending
+          ∙ sym (run_stands_own l past id m words on)
+
       each_own : connection_at final.items id ≡ connection_of l (run ∷ past) id
       each_own =
-          let stays = run_stands l past id id m words in
-          own_is ∙ same_parts own_queue (sym stays)
+          own_is ∙ same_parts own_queue stands_own
           (ap (mode_by plan.deed) own_mode ∙ becoming
           ∙ sym (mode_own l id id m words past (eq-eqb id id refl))
           ∙ sym (live_mode ((state l (run ∷ past)).standing id) ((state l (run ∷ past)).modes id)
-          (ap keeps_bytes (stays ∙ sym (ap (λ (c : Connection). c.standing) (k.each id own_there)))
-          ∙ (opened l past space keys cs k id on).1)))
+          (keeps_run l past id id m words ∙ ap keeps_bytes live_is)))
 
       each_other : (i : ℕ) → IsId cs i → (id ≡ i → ⊥)
           → connection_at final.items i ≡ connection_of l (run ∷ past) i
       each_other i there ne =
+          let stays = run_stands_other l past i id m words (ne_eqb id i ne) in
           other_is i there ne
-          ∙ same_parts (other_queue i (ne_eqb id i ne)) (sym (run_stands l past i id m words))
-          (same_kept (sym (run_stands l past i id m words))
-          (sym (mode_other l i id m words past (ne_eqb id i ne))))
+          ∙ same_parts (other_queue i (ne_eqb id i ne)) (sym stays)
+          (same_kept (sym stays) (sym (mode_other l i id m words past (ne_eqb id i ne))))
 
       pub agrees_run : (new : Space) → latest past ≤ m
           → new ≡ t.effect.space
@@ -434,7 +524,6 @@ module _ (l : Limits) (past : List Entry) (space : Space) (keys : TableState)
       unfolding posted
       posted_run = grind (
         arith,
-        posts_switched,
         posts_sendings,
         first_posts,
         append_assoc,

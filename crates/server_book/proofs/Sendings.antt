@@ -2,10 +2,10 @@
 use Rattle.std.proofs.Common.{◌≡◌, ◌+◌, ◌-◌, ◌<◌, ◌≤◌, ℕ, List, [], ◌∷◌, ◌++◌, length, take, sym}
 use Rattle.std.proofs.Common.{ap, ◌∙◌, refl, arith, true, false, cond, Bool, length-append}
 use Rattle.std.proofs.Common.{length-set, slice_index_or, slice_set, append_assoc, append-nil, inl}
-use Rattle.std.proofs.Common.{inr, eq-eqb, ne_eqb, Result, OnErr, Option}
-use Rattle.std.specs.Prelude.{◌==◌, ◌&&◌, nat_lt, nat_le}
+use Rattle.std.proofs.Common.{inr, eq-eqb, ne_eqb, Result, OnErr, Option, Some, None}
+use Rattle.std.specs.Prelude.{◌==◌, ◌&&◌, nat_lt, nat_le, not}
 use Prim.Native.Nat.{zero, suc}
-use Rattle.std.proofs.lemmas.Bool.{cases_eq}
+use Rattle.std.proofs.lemmas.Bool.{cases_eq, and_parts}
 use Rattle.std.proofs.lemmas.Bool.Decides.{nat_tests}
 use Rattle.std.proofs.lemmas.List.{get_or-set_same, get_or-set_other, set-get_or}
 use Rattle.std.proofs.Math.Seq.{take-append_seam}
@@ -16,7 +16,7 @@ use Rattle.redirect.specs.Messages.{push_of}
 use Rattle.serial_model.specs.declared.history.Post.{Post}
 use Rattle.serial_model.specs.declared.standing.Standing.{Standing}
 use Rattle.serial_model.specs.Tracking.{Invalidation, told_to, ids_where}
-use Rattle.serial_model.specs.Actions.{Sending, Message, sending_bytes, spelled}
+use Rattle.serial_model.specs.Actions.{Sending, Message, End, sending_bytes, spelled}
 use Rattle.serial_model.specs.History.{posted_of, sent_bytes, sent_to, posts_of}
 use Rattle.serial_model.specs.Plain.{is_three, pushed, pushes}
 use Rattle.serial_model.specs.State.{is_live}
@@ -25,8 +25,8 @@ use Rattle.serial_model.proofs.Each.{all_in, in_append}
 use Rattle.server_book.specs.Places.{Connection, fresh, kept_mode}
 use Rattle.server_book.specs.Connections.{ConnectionsState, IsId, connection_at, with_connection}
 use Rattle.server_book.specs.Connections.{is_there, ArePosted, IsOpen}
-use Rattle.server_book.specs.Sendings.{is_pushed, queued, with_sending, with_sendings}
-use Rattle.server_book.specs.Sendings.{unqueued, before_posts, size_of, message_post}
+use Rattle.server_book.specs.Sendings.{is_pushed, is_told, queued, with_sending, with_sendings}
+use Rattle.server_book.specs.Sendings.{unqueued, before_posts, size_of, message_post, end_post}
 
 -- what holds holds of an error, and of a success
 pub on_err : {A E : Type 0} (r : Result A E) (P : Type 0) → P → OnErr r P
@@ -221,19 +221,24 @@ is_there_id cs id h = grind (arith, nat_tests)
 pub pushed_id : (cs : List Connection) (id : ℕ) → is_pushed cs id ≡ true → IsId cs id
 pushed_id cs id h = grind (arith, nat_tests)
 
-one_there : (cs : List Connection) (i : Invalidation) → AreTo cs (pushed (is_pushed cs) i)
-one_there cs i = elim (is_pushed cs i.to) as (λ b. is_pushed cs i.to ≡ b
+told_id : (but : Option ℕ) (cs : List Connection) (id : ℕ) → is_told but cs id ≡ true → IsId cs id
+told_id None cs id h = pushed_id cs id h
+told_id (Some passed) cs id h = pushed_id cs id (and_parts (is_pushed cs id) _ h).0
+
+one_there : (but : Option ℕ) (cs : List Connection) (i : Invalidation)
+    → AreTo cs (pushed (is_told but cs) i)
+one_there but cs i = elim (is_told but cs i.to) as (λ b. is_told but cs i.to ≡ b
     → AreTo cs (cond b ((i.to, Message Three (push_of i.keys)) ∷ []) [])) [
-      | true ↦ λ e. (pushed_id cs i.to e, tt)
+      | true ↦ λ e. (told_id but cs i.to e, tt)
       | false ↦ λ e. tt
     ] refl
 
-pub pushes_there : (cs : List Connection) (is : List Invalidation)
-    → AreTo cs (pushes (is_pushed cs) is)
-pushes_there cs [] = tt
-pushes_there cs (i ∷ is) =
-    in_append (λ (s : ℕ × Sending). IsId cs s.0) (pushed (is_pushed cs) i)
-    (pushes (is_pushed cs) is) (one_there cs i) (pushes_there cs is)
+pub pushes_there : (but : Option ℕ) (cs : List Connection) (is : List Invalidation)
+    → AreTo cs (pushes (is_told but cs) is)
+pushes_there but cs [] = tt
+pushes_there but cs (i ∷ is) =
+    in_append (λ (s : ℕ × Sending). IsId cs s.0) (pushed (is_told but cs) i)
+    (pushes (is_told but cs) is) (one_there but cs i) (pushes_there but cs is)
 
 -- tests that agree
 pub pushes_same : (f g : ℕ → Bool) (is : List Invalidation) → ((id : ℕ) → f id ≡ g id)
@@ -257,6 +262,24 @@ module _ (n : ℕ) (ss : List (ℕ × Sending)) (old : ConnectionsState) (to : A
         sym (ap (λ (c : Connection). c.standing) at),
       )))
 
+  pub told_same : (but : Option ℕ) (id : ℕ) → is_told but ds id ≡ is_told but old.items id
+  told_same None id = pushed_same id
+  told_same (Some passed) id = ap (λ b. b && not (passed == id)) (pushed_same id)
+
+-- ---- the end of a connection that quits
+
+queued_nothing : (cs : List Connection) (id : ℕ) → queued cs id [] ≡ cs
+queued_nothing cs id =
+    let c = connection_at cs id in
+    ap (λ q. with_connection cs id (record c { queue = q })) (append-nil c.queue)
+    ∙ set-get_or cs (id - 1) fresh
+
+pub end_sent : (n id : ℕ) (st : ConnectionsState)
+    → record st { posts = st.posts ++ end_post n id ∷ [] } ≡ with_sendings n ((id, End) ∷ []) st
+end_sent n id st =
+    ap (λ (cs : List Connection). record { items = cs; posts = st.posts ++ end_post n id ∷ [] })
+    (sym (queued_nothing st.items id))
+
 -- ---- telling one holder after another
 
 pub told_next : (test : ℕ → Bool) (keys : Option (List (List ℕ))) (ids : List ℕ) (n : ℕ)
@@ -270,49 +293,55 @@ told_next test keys (id ∷ ids) (suc n) lt =
     grind (arith, slice_index_or, append_assoc, told_next test keys ids n (omega arith))
 
 -- what the first holders of a key are sent
-abbrev pub told_first : List Connection → Option (List (List ℕ)) → List ℕ → ℕ → List (ℕ × Sending)
-told_first cs keys ids k = pushes (is_pushed cs) (told_to keys (take k ids))
+abbrev pub told_first : Option ℕ → List Connection → Option (List (List ℕ)) → List ℕ → ℕ
+    → List (ℕ × Sending)
+told_first but cs keys ids k = pushes (is_told but cs) (told_to keys (take k ids))
 
-pub first_there : (cs : List Connection) (keys : Option (List (List ℕ))) (ids : List ℕ) (k : ℕ)
-    → AreTo cs (told_first cs keys ids k)
-first_there cs keys ids k = pushes_there cs (told_to keys (take k ids))
+pub first_there : (but : Option ℕ) (cs : List Connection) (keys : Option (List (List ℕ)))
+    (ids : List ℕ) (k : ℕ) → AreTo cs (told_first but cs keys ids k)
+first_there but cs keys ids k = pushes_there but cs (told_to keys (take k ids))
 
-module _ (n : ℕ) (keys : Option (List (List ℕ))) (ids : List ℕ) (k : ℕ)
+module _ (n : ℕ) (but : Option ℕ) (keys : Option (List (List ℕ))) (ids : List ℕ) (k : ℕ)
     (old now : ConnectionsState) (lt : k < length ids)
-    (so_far : now ≡ with_sendings n (told_first old.items keys ids k) old) where
+    (so_far : now ≡ with_sendings n (told_first but old.items keys ids k) old) where
   abbrev id : ℕ
   id = slice_index_or ids k 0
 
-  test_is : is_pushed now.items id ≡ is_pushed old.items id
+  abbrev first : List (ℕ × Sending)
+  first = told_first but old.items keys ids k
+
+  test_is : is_told but now.items id ≡ is_told but old.items id
   test_is =
-      ap (λ (s : ConnectionsState). is_pushed s.items id) so_far
-      ∙ pushed_same n (told_first old.items keys ids k) old (first_there old.items keys ids k) id
+      ap (λ (s : ConnectionsState). is_told but s.items id) so_far
+      ∙ told_same n first old (first_there but old.items keys ids k) but id
 
   abbrev one : Bool → List (ℕ × Sending)
   one b = cond b ((id, Message Three (push_of keys)) ∷ []) []
 
-  told_step : (next : ConnectionsState) → next ≡ with_sendings n (one (is_pushed now.items id)) now
-      → next ≡ with_sendings n (told_first old.items keys ids (k + 1)) old
+  told_step : (next : ConnectionsState)
+      → next ≡ with_sendings n (one (is_told but now.items id)) now
+      → next ≡ with_sendings n (told_first but old.items keys ids (k + 1)) old
   told_step next sent =
       sent ∙ ap (λ b. with_sendings n (one b) now) test_is
-      ∙ ap (λ s. with_sendings n (one (is_pushed old.items id)) s) so_far
-      ∙ sym (sendings_append n (told_first old.items keys ids k) (one (is_pushed old.items id)) old)
-      ∙ ap (λ ss. with_sendings n ss old) (sym (told_next (is_pushed old.items) keys ids k lt))
+      ∙ ap (λ s. with_sendings n (one (is_told but old.items id)) s) so_far
+      ∙ sym (sendings_append n first (one (is_told but old.items id)) old)
+      ∙ ap (λ ss. with_sendings n ss old)
+      (sym (told_next (is_told but old.items) keys ids k lt))
 
-  -- it takes no push
-  pub told_nothing : (next : ConnectionsState) → is_pushed now.items id ≡ false → next ≡ now
-      → next ≡ with_sendings n (told_first old.items keys ids (k + 1)) old
+  -- it takes no push, or is passed over
+  pub told_nothing : (next : ConnectionsState) → is_told but now.items id ≡ false → next ≡ now
+      → next ≡ with_sendings n (told_first but old.items keys ids (k + 1)) old
   told_nothing next off same =
       told_step next (same ∙ ap (λ b. with_sendings n (one b) now) (sym off))
 
   -- it takes one
-  pub told_push : (next : ConnectionsState) (push : List ℕ) → is_pushed now.items id ≡ true
+  pub told_push : (next : ConnectionsState) (push : List ℕ) → is_told but now.items id ≡ true
       → push ≡ spelled Three (push_of keys)
       → next ≡ record {
         items = queued now.items id push;
         posts = now.posts ++ message_post n id (length push) ∷ [];
       }
-      → next ≡ with_sendings n (told_first old.items keys ids (k + 1)) old
+      → next ≡ with_sendings n (told_first but old.items keys ids (k + 1)) old
   told_push next push on spelling sent =
       told_step next
       (sent ∙ ap (λ p. record {

@@ -23,8 +23,8 @@ use Rattle.serial_model.proofs.Counts.{on_is}
 use Rattle.serial_model.proofs.Fresh.{action_sends_off}
 use Rattle.serial_model.proofs.ModeSteps.{mode_tick}
 use Rattle.serial_model.proofs.PlainActions.{tick_sends}
-use Rattle.serial_model.proofs.StateSteps.{tick_stands, tick_table, tick_ended}
-use Rattle.serial_model.proofs.Streams.{tick_bytes, unsent_tick, unsent_ended}
+use Rattle.serial_model.proofs.StateSteps.{tick_stands, tick_table}
+use Rattle.serial_model.proofs.Streams.{tick_bytes, unsent_tick, unsent_tick_ended}
 use Rattle.serial_model.proofs.TableSize.{table_within, without_keys_within}
 use Rattle.serial_model.proofs.Turning.{tick_step}
 use Rattle.server_book.specs.Places.{Connection}
@@ -59,8 +59,9 @@ module _ (l : Limits) (past : List Entry) (space : Space) (keys : TableState)
   sends_are : sends l tick now ≡ sent
   sends_are =
       tick_sends l past m
-      ∙ ap (λ x. (pushes (tests_before now) (group t.expired now.table) ++ [])
-      ++ pushes (tests_then t now) x) none_dropped
+      ∙ ap (λ x. ((pushes (tests_before now) (group t.expired now.table) ++ [])
+      ++ pushes (tests_then t now) x) ++ []) none_dropped
+      ∙ append-nil ((pushes (tests_before now) (group t.expired now.table) ++ []) ++ [])
       ∙ append-nil (pushes (tests_before now) (group t.expired now.table) ++ [])
       ∙ append-nil (pushes (tests_before now) (group t.expired now.table))
       ∙ sym (early_is l past space keys cs k m gone gone_is)
@@ -77,10 +78,10 @@ module _ (l : Limits) (past : List Entry) (space : Space) (keys : TableState)
   unsent_after c = elim (has_ended l c past) as (λ b. has_ended l c past ≡ b
       → unsent l c (tick ∷ past) ≡ unsent l c past ++ tick_bytes l past m c) [
         | false ↦ λ h. unsent_tick l past c m h
-        | true ↦ λ h. unsent_ended l (tick ∷ past) c (tick_ended l past c m ∙ h)
-            ∙ sym (ap (λ x. x ++ tick_bytes l past m c) (unsent_ended l past c h)
-            ∙ ap sent_bytes
-            (action_sends_off (is_overgrown l t now) l t now (length past + 1) c (off c h)))
+        | true ↦ λ h. unsent_tick_ended l past c m h
+            ∙ sym (ap (λ x. unsent l c past ++ sent_bytes x)
+            (action_sends_off (is_overgrown l t now) l t now (length past + 1) c (off c h))
+            ∙ append-nil (unsent l c past))
       ] refl
 
   each : (i : ℕ) → IsId cs i → connection_at told i ≡ connection_of l (tick ∷ past) i

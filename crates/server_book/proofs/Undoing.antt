@@ -1,5 +1,5 @@
 -- A Run that memory broke off is taken back.
-use Rattle.std.proofs.Common.{◌≡◌, ℕ, List, [], ◌∷◌, ◌++◌, length, ap, ◌∙◌, refl, arith}
+use Rattle.std.proofs.Common.{◌≡◌, ℕ, List, [], ◌∷◌, ◌++◌, length, ap, ◌∙◌, refl, arith, None}
 use Rattle.track_table.specs.declared.table.Held.{Held}
 use Rattle.track_table.specs.Table.{without_keys}
 use Rattle.serial_model.specs.declared.history.Post.{Post}
@@ -48,12 +48,12 @@ module _ (n id : ℕ) (old now : ConnectionsState) (keys : List (List ℕ)) (row
     on_there,
     ap (λ (s : ConnectionsState). is_open (connection_at s.items id)) told
         ∙ ap is_open
-        (sent_at n id sent old on.0 (pushes_there old.items (group keys rows)))
+        (sent_at n id sent old on.0 (pushes_there None old.items (group keys rows)))
         ∙ on.1,
   )
 
   pub told_none : before_posts now.posts now.items ≡ old.items
   told_none =
       ap (λ (s : ConnectionsState). before_posts s.posts s.items) told
-      ∙ before_sendings n sent old (pushes_there old.items (group keys rows))
+      ∙ before_sendings n sent old (pushes_there None old.items (group keys rows))
       ∙ ap (λ ps. before_posts ps old.items) none

@@ -1,15 +1,18 @@
 -- What a Run does to the connections.
-use Rattle.std.specs.Prelude.{ℕ, List, [], ◌∷◌, ◌++◌, length, Option, Some, None}
-use Rattle.track_modes.specs.ModeState.{ModeState}
+use Rattle.std.specs.Prelude.{◌==◌, ◌&&◌, ℕ, List, [], ◌∷◌, ◌++◌, Bool, length, filter}
+use Rattle.std.specs.Prelude.{not, if◌then◌else◌}
+use Rattle.track_modes.specs.ModeState.{is_noloop}
 use Rattle.track_table.specs.Table.{TableState, without_keys}
 use Rattle.serial_model.specs.Plain.{pushes}
-use Rattle.serial_model.specs.Tracking.{group}
-use Rattle.serial_model.specs.History.{spelled}
+use Rattle.serial_model.specs.Tracking.{Invalidation, group}
+use Rattle.serial_model.specs.History.{Sending, End, spelled}
+use Rattle.serial_model.specs.declared.standing.Standing.{Standing}
+use Rattle.serial_model.specs.declared.standing.Standing.TheVariants.{Quit}
 use Rattle.server_book.specs.Places.{Connection}
 use Rattle.server_book.specs.declared.deed.Deed.{Deed}
 use Rattle.server_book.specs.declared.plan.Plan.{Plan}
 use Rattle.server_book.specs.Connections.{ConnectionsState, connection_at, with_connection}
-use Rattle.server_book.specs.Plans.{becomes, told_by}
+use Rattle.server_book.specs.Plans.{mode_by, quits, told_by}
 use Rattle.server_book.specs.Sendings.{is_pushed, message_post, queued, tracking_ids}
 use Rattle.server_book.specs.Sendings.{with_sendings}
 
@@ -27,11 +30,29 @@ reply_sent entry id plan state =
       posts = state.posts ++ message_post entry id (length message) ∷ [];
     }
 
+-- under NOLOOP a connection is not told of what its own deed signals
+abbrev pub passes : List Connection → ℕ → ℕ → Bool
+passes connections id c =
+    (id == c) && is_noloop (connection_at connections c).mode.tracking
+
+abbrev pub unpassed : (ℕ → Bool) → List Invalidation → List Invalidation
+unpassed is_passed told = filter (λ i. not (is_passed i.to)) told
+
+-- the end of a connection that quits
+abbrev pub end_by : ℕ → Deed → List (ℕ × Sending)
+end_by id deed = if quits deed then (id, End) ∷ [] else []
+
+-- what a deed sends: to those whom it tells, and then the end of its connection
+abbrev pub sent_by : ℕ → Deed → TableState → List Connection → List (ℕ × Sending)
+sent_by id deed table connections =
+    let told = told_by table.limit id deed (passes connections id) (tracking_ids connections)
+    table.rows in
+    pushes (is_pushed connections) told ++ end_by id deed
+
 -- and once those are told whom the command tells, over the remembered keys that are left
 abbrev pub command_told : ℕ → ℕ → Plan → TableState → ConnectionsState → ConnectionsState
 command_told entry id plan table state =
-    let told = told_by table.limit id plan.deed (tracking_ids state.items) table.rows in
-    with_sendings entry (pushes (is_pushed state.items) told) state
+    with_sendings entry (sent_by id plan.deed table state.items) state
 
 abbrev pub run_sendings : ℕ → ℕ → List (List ℕ) → Plan → TableState → ConnectionsState
     → ConnectionsState
@@ -40,15 +61,16 @@ run_sendings entry id expired plan table state =
     (record table { rows = without_keys expired table.rows })
     (reply_sent entry id plan (expiry_told entry expired table state))
 
--- a connection in this mode
-abbrev pub with_mode : ℕ → ModeState → List Connection → List Connection
-with_mode id mode connections =
-    with_connection connections id (record (connection_at connections id) { mode = mode })
+-- how far a connection has ended after its deed
+abbrev pub standing_by : Deed → Standing → Standing
+standing_by deed standing = if quits deed then Quit else standing
 
-abbrev pub switched : ℕ → Option ModeState → ConnectionsState → ConnectionsState
-switched id None state = state
-switched id (Some mode) state = record state { items = with_mode id mode state.items }
+abbrev pub settled_one : Deed → Connection → Connection
+settled_one deed c =
+    record c { standing = standing_by deed c.standing; mode = mode_by deed c.mode }
 
--- at last the connection has the mode that the command leaves
+-- at last the connection has the mode that the command leaves, and may have ended
 abbrev pub settled : ℕ → Deed → ConnectionsState → ConnectionsState
-settled id deed state = switched id (becomes deed) state
+settled id deed state =
+    let c = settled_one deed (connection_at state.items id) in
+    record state { items = with_connection state.items id c }

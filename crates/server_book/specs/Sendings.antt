@@ -1,5 +1,5 @@
 -- What sendings do to the connections, and what taking them back does.
-use Rattle.std.specs.Prelude.{◌-◌, ◌&&◌, ℕ, List, [], ◌∷◌, ◌++◌, Bool, length, take}
+use Rattle.std.specs.Prelude.{◌-◌, ◌==◌, ◌&&◌, ℕ, List, [], ◌∷◌, ◌++◌, Bool, length, not, take}
 use Rattle.std.specs.Prelude.{Option, Some, None, if◌then◌else◌}
 use Rattle.serial_model.specs.declared.history.Post.{Post}
 use Rattle.serial_model.specs.declared.history.Posted.{Posted}
@@ -33,6 +33,16 @@ tracking_ids connections = ids_where (tracks connections) (length connections)
 abbrev pub is_pushed : List Connection → ℕ → Bool
 is_pushed connections id =
     takes_pushes (is_live connections) (connection_at connections id).mode id
+
+-- the connection itself, where it is told of no key that it changes (NOLOOP)
+abbrev pub passed_over : List Connection → ℕ → Option ℕ
+passed_over connections id =
+    if track.is_noloop (connection_at connections id).mode.tracking then Some id else None
+
+-- a connection that is sent a push and is not passed over
+abbrev pub is_told : Option ℕ → List Connection → ℕ → Bool
+is_told None connections = is_pushed connections
+is_told (Some passed) connections = λ id. is_pushed connections id && not (passed == id)
 
 -- bytes behind those that a connection has not taken
 abbrev pub queued : List Connection → ℕ → List ℕ → List Connection

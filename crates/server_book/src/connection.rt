@@ -4,7 +4,9 @@ ghost use Rattle.serial_model.specs.Actions.{spelled};
 ghost use Rattle.serial_model.specs.Plain.{is_three};
 ghost use Rattle.serial_model.specs.State as state;
 ghost use Rattle.serial_model.specs.State.{closed, keeps_bytes, may_take};
+ghost use Rattle.serial_model.specs.declared.standing.Standing.TheVariants.{Quit};
 ghost use Rattle.server_book.specs.Places.{bytes_in, fresh, gone};
+ghost use Rattle.track_modes.specs.Commands.{spent_mode};
 ghost use Rattle.track_modes.specs.ModeState as track;
 
 use out_queue::OutQueue;
@@ -65,6 +67,15 @@ fn is_tracking(mode: &Mode) -> bool
     ensures { result ≡ track.is_on mode.now.tracking }
 {
     matches!(mode.tracking(), Tracking::On(_))
+}
+
+fn is_noloop(mode: &Mode) -> bool
+    ensures { result ≡ track.is_noloop mode.now.tracking }
+{
+    match mode.tracking() {
+        Tracking::On(settings) => settings.noloop,
+        Tracking::Off => false,
+    }
 }
 
 impl Open {
@@ -170,6 +181,40 @@ impl Connection {
         match &mut self.kept {
             Some(open) => open.mode = mode,
             None => unreachable!(),
+        }
+    }
+
+    /// What CLIENT CACHING said ends. It takes no memory.
+    pub fn spend(&mut self)
+        requires { keeps_bytes self.old.standing ≡ true }
+        ensures { self.new ≡ record self.old { mode = spent_mode self.old.mode } }
+    {
+        match &mut self.kept {
+            Some(open) => open.mode.spend(),
+            None => unreachable!(),
+        }
+    }
+
+    /// It ends by its own QUIT. What it has not taken can still be taken.
+    pub fn quit(&mut self)
+        requires { keeps_bytes self.old.standing ≡ true }
+        ensures { self.new
+            ≡ record self.old { standing = Quit; mode = spent_mode self.old.mode } }
+    {
+        match &mut self.kept {
+            Some(open) => open.mode.spend(),
+            None => unreachable!(),
+        }
+        self.standing = Standing::Quit;
+    }
+
+    /// Whether it tracks, and is told of no key that it changes itself.
+    pub fn is_noloop(&self) -> bool
+        ensures { result ≡ track.is_noloop self.now.mode.tracking }
+    {
+        match &self.kept {
+            Some(open) => is_noloop(&open.mode),
+            None => false,
         }
     }
 

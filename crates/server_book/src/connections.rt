@@ -3,13 +3,15 @@ ghost use Rattle.std.specs.Prelude.{◌≡◌, ◌++◌, ◌∷◌, [], ◌+◌,
 ghost use Rattle.std.specs.Prelude.{OnErr, IfOk, length, take, drop, option_map};
 ghost use Rattle.serial_model.specs.Actions.{spelled};
 ghost use Rattle.serial_model.specs.Plain.{pushes};
+ghost use Rattle.serial_model.specs.declared.standing.Standing.TheVariants.{Quit};
 ghost use Rattle.serial_model.specs.Tracking.{told_to};
 ghost use Rattle.server_book.specs.Connections.{IsId, IsOpen, ConnectionsState, connection_at};
 ghost use Rattle.server_book.specs.Connections.{gives, is_there, is_live, reads, with_connection};
 ghost use Rattle.server_book.specs.Places.{fresh, gone};
-ghost use Rattle.server_book.specs.Sendings.{before_posts, is_pushed, queued, size_of};
-ghost use Rattle.server_book.specs.Sendings.{told_keys, tracking_ids};
-ghost use Rattle.server_book.specs.Sendings.{message_post, end_posts, with_sendings};
+ghost use Rattle.server_book.specs.Sendings.{before_posts, is_pushed, is_told, queued, size_of};
+ghost use Rattle.server_book.specs.Sendings.{passed_over, told_keys, tracking_ids};
+ghost use Rattle.server_book.specs.Sendings.{end_post, end_posts, message_post, with_sendings};
+ghost use Rattle.track_modes.specs.Commands.{spent_mode};
 
 use super::connection::Connection;
 use super::messages::push_of;
@@ -144,6 +146,42 @@ impl Connections {
         connection.set_mode(mode);
     }
 
+    /// What CLIENT CACHING said to the connection ends. It takes no memory.
+    pub fn spend(&mut self, id: u64)
+        requires { IsOpen self.old.items id }
+        ensures { let c = connection_at self.old.items id in
+            let spent = record c { mode = spent_mode c.mode } in
+            let items = with_connection self.old.items id spent in
+            self.new ≡ record self.old { items = items } }
+    {
+        let connection = &mut self.items[(id - 1) as usize];
+        connection.spend();
+    }
+
+    /// The connection ends by its own QUIT; its end was sent. It takes no memory.
+    pub fn quit(&mut self, id: u64)
+        requires { IsOpen self.old.items id }
+        ensures { let c = connection_at self.old.items id in
+            let ended = record c { standing = Quit; mode = spent_mode c.mode } in
+            let items = with_connection self.old.items id ended in
+            self.new ≡ record self.old { items = items } }
+    {
+        let connection = &mut self.items[(id - 1) as usize];
+        connection.quit();
+    }
+
+    /// The connection itself where it is told of no key that it changes.
+    pub fn passed_over(&self, id: u64) -> Option<u64>
+        requires { IsId self.now.items id }
+        ensures { result ≡ passed_over self.now.items id }
+    {
+        if self.items[(id - 1) as usize].is_noloop() {
+            Some(id)
+        } else {
+            None
+        }
+    }
+
     /// How many bytes the connection has not taken.
     pub fn waiting(&self, id: u64) -> usize
         requires { IsId self.now.items id }
@@ -194,6 +232,22 @@ impl Connections {
         Ok(())
     }
 
+    /// Sends the connection's end, behind all that it was sent.
+    pub fn send_end(&mut self, entry: u64, to: u64) -> Result<(), NoMemory>
+        requires { IsId self.old.items to }
+        ensures ok { OnOk result
+            (self.new ≡ record self.old { posts = self.old.posts ++ end_post entry to ∷ [] }) }
+        ensures err { OnErr result (self.new ≡ self.old) }
+    {
+        self.posts.reserve(1)?;
+        self.posts.push_reserved(Post {
+            entry,
+            id: to,
+            what: Posted::End,
+        });
+        Ok(())
+    }
+
     /// Those that track and have not ended, in order of their ids.
     pub fn tracking(&self, alloc: Global) -> Result<Vec<u64>, NoMemory>
         ensures { IfOk result (λ ids. ids.items ≡ tracking_ids self.now.items) }
@@ -218,19 +272,30 @@ impl Connections {
         connection.tracks() && connection.is_three()
     }
 
+    // Whether the connection is sent a push and is not passed over.
+    fn is_told(&self, but: Option<u64>, id: u64) -> bool
+        ensures { result ≡ is_told but self.now.items id }
+    {
+        match but {
+            Some(passed) => self.is_pushed(id) && passed != id,
+            None => self.is_pushed(id),
+        }
+    }
+
     /// Tells connections that a key is not what it was, or that no key is: those that track on the
-    /// third protocol are sent a push, the others nothing. Where memory runs out, some of them
-    /// were sent theirs.
+    /// third protocol are sent a push, the others nothing, nor is the one that is passed over.
+    /// Where memory runs out, some of them were sent theirs.
     pub fn tell(
         &mut self,
         alloc: Global,
         entry: u64,
         key: Option<&[u8]>,
+        but: Option<u64>,
         to: &[u64],
     ) -> Result<(), NoMemory>
         ensures ok { OnOk result (let keys = told_keys (option_map (λ k. k.now) key.entry) in
             self.new ≡ with_sendings entry
-            (pushes (is_pushed self.old.items) (told_to keys to.now)) self.old) }
+            (pushes (is_told but self.old.items) (told_to keys to.now)) self.old) }
         ensures err { OnErr result
             (before_posts self.new.posts self.new.items
             ≡ before_posts self.old.posts self.old.items) }
@@ -241,7 +306,7 @@ impl Connections {
         let push = push_of(alloc, key)?;
         let message = &push;
         for (place, id) in to.iter().enumerate() {
-            if self.is_pushed(*id) {
+            if self.is_told(but, *id) {
                 self.send(entry, *id, Proto::Three, message)?;
             }
         }

@@ -8,7 +8,7 @@ use std::alloc::Global;
 use track_modes::Mode;
 
 /// Whom a request tells, what its connection remembers by it, and what it makes of its connection.
-/// One that tells somebody leaves its connection's mode.
+/// One that names no mode ends what CLIENT CACHING said, and leaves the rest of the mode.
 #[derive(Drop)]
 pub enum Deed {
     Nothing,
@@ -24,4 +24,6 @@ pub enum Deed {
     Track(Mode),
     /// And it forgets all keys.
     Forget(Mode),
+    /// The connection ends behind its reply, and forgets all keys.
+    Quit,
 }

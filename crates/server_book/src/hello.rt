@@ -34,7 +34,8 @@ pub fn hello(word: &Option<Octets>, proto: Proto) -> Result<Proto, &'static [u8]
     }
 }
 
-fn blob(alloc: Global, text: &[u8]) -> Result<Value, NoMemory>
+/// A text as a value.
+pub fn blob(alloc: Global, text: &[u8]) -> Result<Value, NoMemory>
     ensures { IfOk result (λ v. v ≡ Blob text.now) }
 {
     Ok(Value::Blob(Octets::from_slice(alloc, text)?))

@@ -3,6 +3,7 @@
 
 mod book;
 mod connection;
+mod connection_plan;
 mod connections;
 mod deed;
 mod hello;
@@ -10,6 +11,7 @@ mod log;
 mod messages;
 mod plan;
 mod stores;
+mod tracking_info;
 
 pub use book::Book;
 pub use serial_model::{

@@ -1,9 +1,7 @@
 //! What a request does: to the keyspace, and what is planned of its reply, whom it tells and what
 //! it makes of its connection.
 ghost use Rattle.std.specs.Prelude.{◌≡◌, ◌<◌, ◌^◌, IfOk, OnOk, OnErr, Result, Ok, Err, List, []};
-ghost use Rattle.std.specs.Prelude.{None};
-ghost use Rattle.std.specs.Prelude.{ℕ, true, false, if◌then◌else◌};
-ghost use Rattle.command_words.specs.declared.command.Command.TheVariants.{Hello, ClientTracking};
+ghost use Rattle.std.specs.Prelude.{ℕ, true, if◌then◌else◌};
 ghost use Rattle.command_words.specs.declared.command.WordFault.{WordFault};
 ghost use Rattle.command_words.specs.Effects.{has_row};
 ghost use Rattle.command_words.specs.Expiry.{without_due};
@@ -15,21 +13,19 @@ ghost use Rattle.command_words.specs.declared.command.Command.{Command};
 ghost use Rattle.command_set.specs.Runs.{taken_back};
 ghost use Rattle.serial_model.specs.Deadlines.{due_keys};
 ghost use Rattle.serial_model.specs.EntryEffects.{command_of};
-ghost use Rattle.serial_model.specs.Modes.{is_served_tracking};
 ghost use Rattle.serial_model.specs.History.{is_served, served, served_reading};
 ghost use Rattle.serial_model.specs.Plain.{IsPlainMode};
 ghost use Rattle.server_book.specs.Plans.{IsQuiet, deed_for, runner};
 ghost use Rattle.server_book.specs.Played.{IsPlayed};
-ghost use Rattle.track_modes.specs.Commands.{after_command, command_fault};
 ghost use Rattle.track_modes.specs.ModeState.{remembers_read};
 
+use super::connection_plan::{is_served_tracking, plan_command};
 use super::deed::Deed;
-use super::hello::{greeting, hello};
 use command_set::{Database, Expired, Turned, Undo, has_row};
-use command_words::{Command, Signalled, TrackOptions, WordFault, fault_text, keys_read};
-use resp_value::{NoMemory, Octets, Proto, Value, Words};
+use command_words::{Command, Signalled, WordFault, fault_text, keys_read};
+use resp_value::{NoMemory, Proto, Value, Words};
 use std::alloc::Global;
-use track_modes::{Mode, ModeFault};
+use track_modes::Mode;
 
 #[derive(Drop)]
 pub struct Plan {
@@ -103,25 +99,20 @@ fn play_expiry(space: &mut Database, plan: Plan, moment: u64) -> Result<Played, 
     })
 }
 
-// CLIENT TRACKING without options, or OFF.
-fn is_served_tracking(options: &TrackOptions) -> bool
-    ensures { result ≡ is_served_tracking options.now }
-{
-    let none = options.redirect.is_none()
-        && !options.bcast
-        && !options.optin
-        && !options.optout
-        && !options.noloop
-        && options.prefixes.as_slice().is_empty();
-    !options.on || none
-}
-
 /// Whether the command is served.
 pub fn is_served(command: &Command) -> bool
     ensures { result ≡ is_served command.now }
 {
     match command {
-        Command::Hello(_) => true,
+        Command::Ping(_)
+        | Command::Echo(_)
+        | Command::Hello(_)
+        | Command::Reset
+        | Command::Quit
+        | Command::ClientId
+        | Command::ClientCaching(_)
+        | Command::ClientGetRedir
+        | Command::ClientTrackingInfo => true,
         Command::ClientTracking(options) => is_served_tracking(options),
         _ => has_row(command),
     }
@@ -181,7 +172,6 @@ fn play_data(
     moment: u64,
 ) -> Result<Played, NoMemory>
     requires row { has_row command.now ≡ true }
-    requires plain { IsPlainMode mode.now }
     ensures { (words : List (List ℕ))
         → IsPlayed (runner by.id mode.now) words (Ok command.now) moment result space.old
         space.new }
@@ -205,106 +195,13 @@ fn play_data(
     })
 }
 
-// The plan of CLIENT TRACKING that is served.
-#[tactic(auto, unfolding(track_modes::specs::Commands::fault_at))]
-fn plan_tracking(by: Caller, mode: &Mode, options: &TrackOptions) -> Result<Plan, NoMemory>
-    ensures { IfOk result (λ p.
-        (words : List (List ℕ)) (space : Space) (moment : ℕ)
-        → IsQuiet p (runner by.id mode.now) words (Ok (ClientTracking options.now)) space moment) }
-{
-    let mut next = mode.copy()?;
-    match next.apply_tracking(options, true) {
-        Ok(()) => {
-            let reply = Value::Simple(Octets::from_slice(by.alloc, b"OK")?);
-            next.spend();
-            Ok(Plan {
-                reply,
-                proto: next.peer().proto,
-                deed: if options.on {
-                    Deed::Track(next)
-                } else {
-                    Deed::Forget(next)
-                },
-            })
-        }
-        Err(ModeFault::NoMemory) => Err(NoMemory),
-        Err(fault) => {
-            let reply = Value::Error(Octets::from_slice(by.alloc, fault.text())?);
-            next.spend();
-            Ok(Plan {
-                reply,
-                proto: next.peer().proto,
-                deed: Deed::Become(next),
-            })
-        }
-    }
-}
-
-// The plan of words that read as a command that is none on data.
-fn plan_command(by: Caller, mode: &Mode, words: &Words, command: &Command) -> Result<Plan, NoMemory>
-    requires id { by.id < 2 ^ 63 }
-    requires plain { IsPlainMode mode.now }
-    requires other { has_row command.now ≡ false }
-    ensures { IfOk result (λ p. (space : Space) (moment : ℕ)
-        → IsQuiet p (runner by.id mode.now) words.now (served (Ok command.now)) space moment) }
-{
-    match command {
-        Command::Hello(word) => plan_hello(by, mode, command, word),
-        Command::ClientTracking(options) => {
-            if is_served_tracking(options) {
-                plan_tracking(by, mode, options)
-            } else {
-                plan_fault(by, mode, words, WordFault::Unknown)
-            }
-        }
-        _ => plan_fault(by, mode, words, WordFault::Unknown),
-    }
-}
-
-// HELLO with this word, which a mode that is served never refuses.
-#[tactic(auto, unfolding(track_modes::specs::Commands::fault_at))]
-fn apply_hello(mode: &mut Mode, command: &Command, word: &Option<Octets>)
-    requires plain { IsPlainMode mode.old }
-    requires is { command.now ≡ Hello word.now }
-    ensures mode { mode.new ≡ after_command command.now mode.old }
-    ensures accepted { command_fault command.now true mode.old ≡ None }
-{
-    if mode.apply(command, true).is_err() {
-        unreachable!()
-    }
-}
-
-// The plan of HELLO.
-#[tactic(auto, unfolding(track_modes::specs::Commands::after_command))]
-fn plan_hello(
+/// The plan of words that are no command that is served.
+pub fn plan_fault(
     by: Caller,
     mode: &Mode,
-    command: &Command,
-    word: &Option<Octets>,
+    words: &Words,
+    fault: WordFault,
 ) -> Result<Plan, NoMemory>
-    requires id { by.id < 2 ^ 63 }
-    requires plain { IsPlainMode mode.now }
-    requires is { command.now ≡ Hello word.now }
-    ensures { IfOk result (λ p.
-        (words : List (List ℕ)) (space : Space) (moment : ℕ)
-        → IsQuiet p (runner by.id mode.now) words (Ok command.now) space moment) }
-{
-    let reply = match hello(word, mode.peer().proto) {
-        Ok(proto) => greeting(by.alloc, proto, by.id)?,
-        Err(text) => Value::Error(Octets::from_slice(by.alloc, text)?),
-    };
-    let mut next = mode.copy()?;
-    apply_hello(&mut next, command, word);
-    Ok(Plan {
-        reply,
-        proto: next.peer().proto,
-        deed: Deed::Become(next),
-    })
-}
-
-// The plan of words that are no command that is served.
-fn plan_fault(by: Caller, mode: &Mode, words: &Words, fault: WordFault) -> Result<Plan, NoMemory>
-    requires { IsPlainMode mode.now }
     ensures { IfOk result (λ p.
         (read : Result Command WordFault) (space : Space) (moment : ℕ)
         → IsReading (Err fault) read

@@ -1,13 +1,17 @@
 //! What the server keeps beside its history, all of which follows from it.
-ghost use Rattle.std.specs.Prelude.{◌≡◌, ◌<◌, [], OnOk, OnErr, IfOk, None};
+ghost use Rattle.std.specs.Prelude.{◌≡◌, ◌<◌, ◌∷◌, [], OnOk, OnErr, IfOk, None};
 ghost use Rattle.std.specs.FinMap.{empty};
-ghost use Rattle.track_table.specs.Table.{dropped, kept, with_keys, without_keys};
+ghost use Rattle.track_table.specs.Table.{dropped, kept, with_keys, without_connection};
+ghost use Rattle.track_table.specs.Table.{without_keys};
+ghost use Rattle.serial_model.specs.Actions.{End};
 ghost use Rattle.serial_model.specs.Plain.{pushes};
 ghost use Rattle.serial_model.specs.Tracking.{AreApart, drop_group, group, told_to};
 ghost use Rattle.server_book.specs.Connections.{IsId, IsOpen};
-ghost use Rattle.server_book.specs.Plans.{IsSound, kept_by, signals_of, told_by};
-ghost use Rattle.server_book.specs.RunSendings.{command_told, reply_sent, run_sendings, settled};
-ghost use Rattle.server_book.specs.Sendings.{before_posts, is_pushed, tracking_ids, with_sendings};
+ghost use Rattle.server_book.specs.Plans.{IsSound, kept_by, signals_of};
+ghost use Rattle.server_book.specs.RunSendings.{command_told, passes, reply_sent, run_sendings};
+ghost use Rattle.server_book.specs.RunSendings.{sent_by, settled, unpassed};
+ghost use Rattle.server_book.specs.Sendings.{before_posts, is_pushed, is_told, tracking_ids};
+ghost use Rattle.server_book.specs.Sendings.{with_sendings};
 ghost use Rattle.server_book.specs.Stores.{IsHeld};
 
 use super::connections::Connections;
@@ -54,7 +58,7 @@ fn tell_rows(
         ≡ before_posts connections.old.posts connections.old.items) }
 {
     for (place, row) in rows.iter().enumerate() {
-        connections.tell(alloc, entry, Some(row.key()), row.holders())?;
+        connections.tell(alloc, entry, Some(row.key()), None, row.holders())?;
     }
     Ok(())
 }
@@ -107,15 +111,21 @@ impl Stores {
         }
     }
 
-    /// Tells the holders of these keys, key by key; they hold them still.
-    pub fn tell_keys(&mut self, entry: u64, keys: &[Octets]) -> Result<(), NoMemory>
+    /// Tells the holders of these keys but the one that is passed over, key by key; they hold them
+    /// still.
+    pub fn tell_keys(
+        &mut self,
+        entry: u64,
+        but: Option<u64>,
+        keys: &[Octets],
+    ) -> Result<(), NoMemory>
         requires apart { AreApart keys.now }
         ensures space { self.new.space ≡ self.old.space }
         ensures table { self.new.table ≡ self.old.table }
         ensures told { OnOk result
             (let group = group keys.now self.old.table.rows in
             self.new.connections
-            ≡ with_sendings entry (pushes (is_pushed self.old.connections.items) group)
+            ≡ with_sendings entry (pushes (is_told but self.old.connections.items) group)
             self.old.connections) }
         ensures back { OnErr result
             (before_posts self.new.connections.posts self.new.connections.items
@@ -124,13 +134,18 @@ impl Stores {
         for (place, key) in keys.iter().enumerate() {
             let holders = self.table.holders(key.as_slice());
             self.connections
-                .tell(self.alloc, entry, Some(key.as_slice()), holders)?;
+                .tell(self.alloc, entry, Some(key.as_slice()), but, holders)?;
         }
         Ok(())
     }
 
-    // Tells the holders of these keys, which hold them no more.
-    fn tell_and_forget(&mut self, entry: u64, keys: &[Octets]) -> Result<(), NoMemory>
+    // Tells the holders of these keys but the one that is passed over; all hold them no more.
+    fn tell_and_forget(
+        &mut self,
+        entry: u64,
+        but: Option<u64>,
+        keys: &[Octets],
+    ) -> Result<(), NoMemory>
         requires apart { AreApart keys.now }
         ensures space { self.new.space ≡ self.old.space }
         ensures table { OnOk result (self.new.table
@@ -138,14 +153,14 @@ impl Stores {
         ensures told { OnOk result
             (let group = group keys.now self.old.table.rows in
             self.new.connections
-            ≡ with_sendings entry (pushes (is_pushed self.old.connections.items) group)
+            ≡ with_sendings entry (pushes (is_told but self.old.connections.items) group)
             self.old.connections) }
         ensures err { OnErr result (self.new.table ≡ self.old.table) }
         ensures back { OnErr result
             (before_posts self.new.connections.posts self.new.connections.items
             ≡ before_posts self.old.connections.posts self.old.connections.items) }
     {
-        self.tell_keys(entry, keys)?;
+        self.tell_keys(entry, but, keys)?;
         forget_keys(&mut self.table, keys);
         Ok(())
     }
@@ -166,8 +181,49 @@ impl Stores {
     {
         let tracking = self.connections.tracking(self.alloc)?;
         self.connections
-            .tell(self.alloc, entry, None, tracking.as_slice())?;
+            .tell(self.alloc, entry, None, None, tracking.as_slice())?;
         self.table.clear();
+        Ok(())
+    }
+
+    // Tells the holders of keys that a command signals; under NOLOOP its connection is passed over.
+    fn tell_signalled(&mut self, entry: u64, id: u64, keys: &[Octets]) -> Result<(), NoMemory>
+        requires id { IsId self.old.connections.items id }
+        requires apart { AreApart keys.now }
+        ensures space { self.new.space ≡ self.old.space }
+        ensures table { OnOk result (self.new.table
+            ≡ record self.old.table { rows = without_keys keys.now self.old.table.rows }) }
+        ensures told { OnOk result
+            (let group = unpassed (passes self.old.connections.items id)
+            (group keys.now self.old.table.rows) in
+            self.new.connections
+            ≡ with_sendings entry (pushes (is_pushed self.old.connections.items) group)
+            self.old.connections) }
+        ensures err { OnErr result (self.new.table ≡ self.old.table) }
+        ensures back { OnErr result
+            (before_posts self.new.connections.posts self.new.connections.items
+            ≡ before_posts self.old.connections.posts self.old.connections.items) }
+    {
+        let but = self.connections.passed_over(id);
+        self.tell_and_forget(entry, but, keys)
+    }
+
+    // Sends the connection's end, and forgets what it remembers.
+    fn end(&mut self, entry: u64, id: u64) -> Result<(), NoMemory>
+        requires id { IsId self.old.connections.items id }
+        ensures space { self.new.space ≡ self.old.space }
+        ensures table { OnOk result
+            (let rows = without_connection id self.old.table.rows in
+            self.new.table ≡ record self.old.table { rows = rows }) }
+        ensures sent { OnOk result
+            (self.new.connections ≡ with_sendings entry ((id, End) ∷ []) self.old.connections) }
+        ensures err { OnErr result (self.new.table ≡ self.old.table) }
+        ensures back { OnErr result
+            (before_posts self.new.connections.posts self.new.connections.items
+            ≡ before_posts self.old.connections.posts self.old.connections.items) }
+    {
+        self.connections.send_end(entry, id)?;
+        self.table.forget_connection(id);
         Ok(())
     }
 
@@ -181,12 +237,9 @@ impl Stores {
         ensures table { OnOk result
             (let rows = kept_by self.old.table.limit id deed.now self.old.table.rows in
             self.new.table ≡ record self.old.table { rows = rows }) }
-        ensures told { OnOk result
-            (let tracking = tracking_ids self.old.connections.items in
-            let group = told_by self.old.table.limit id deed.now tracking self.old.table.rows in
-            self.new.connections
-            ≡ with_sendings entry (pushes (is_pushed self.old.connections.items) group)
-            self.old.connections) }
+        ensures sent { OnOk result
+            (let sendings = sent_by id deed.now self.old.table self.old.connections.items in
+            self.new.connections ≡ with_sendings entry sendings self.old.connections) }
         ensures err { OnErr result (self.new.table ≡ self.old.table) }
         ensures back { OnErr result
             (before_posts self.new.connections.posts self.new.connections.items
@@ -194,13 +247,14 @@ impl Stores {
     {
         match deed {
             Deed::Nothing | Deed::Become(_) | Deed::Track(_) => Ok(()),
-            Deed::Tell(keys) => self.tell_and_forget(entry, keys.as_slice()),
+            Deed::Tell(keys) => self.tell_signalled(entry, id, keys.as_slice()),
             Deed::TellAll => self.tell_flush(entry),
             Deed::Remember(keys) => self.remember(entry, id, keys.as_slice()),
             Deed::Forget(_) => {
                 self.table.forget_connection(id);
                 Ok(())
             }
+            Deed::Quit => self.end(entry, id),
         }
     }
 
@@ -251,7 +305,7 @@ impl Stores {
             (before_posts self.new.connections.posts self.new.connections.items
             ≡ self.old.connections.items) }
     {
-        self.tell_keys(entry, expired)?;
+        self.tell_keys(entry, None, expired)?;
         let aside = self.table.set_aside(expired)?;
         match self.send_own(entry, id, plan) {
             Ok(()) => Ok(()),
@@ -306,13 +360,20 @@ impl Stores {
     {
         let none = Words::new(self.alloc);
         match deed {
-            Deed::Nothing => {}
-            Deed::Tell(keys) => return Signalled::Keys(keys),
-            Deed::TellAll => return Signalled::All,
-            Deed::Remember(_keys) => {}
+            Deed::Nothing => self.connections.spend(id),
+            Deed::Tell(keys) => {
+                self.connections.spend(id);
+                return Signalled::Keys(keys);
+            }
+            Deed::TellAll => {
+                self.connections.spend(id);
+                return Signalled::All;
+            }
+            Deed::Remember(_keys) => self.connections.spend(id),
             Deed::Become(mode) => self.connections.set_mode(id, mode),
             Deed::Track(mode) => self.connections.set_mode(id, mode),
             Deed::Forget(mode) => self.connections.set_mode(id, mode),
+            Deed::Quit => self.connections.quit(id),
         }
         Signalled::Keys(none)
     }
@@ -333,7 +394,7 @@ impl Stores {
         ensures err_table { OnErr result (self.new.table ≡ self.old.table) }
         ensures err_connections { OnErr result (self.new.connections ≡ self.old.connections) }
     {
-        match self.tell_and_forget(entry, expired) {
+        match self.tell_and_forget(entry, None, expired) {
             Ok(()) => Ok(()),
             Err(_) => {
                 self.connections.take_back();

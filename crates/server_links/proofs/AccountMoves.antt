@@ -1,18 +1,18 @@
 -- What each move over a link does to its account.
 use Rattle.std.proofs.Common.{◌≡◌, ℕ, List, [], ◌++◌, true, false, cond, None, Option, take}
-use Rattle.std.proofs.Common.{refl, sym, ap, ◌∙◌, arith, append_assoc, append-nil}
+use Rattle.std.proofs.Common.{refl, sym, ap, ◌∙◌, arith, append_assoc, append-nil, length}
+use Rattle.std.specs.Prelude.{◌==◌, ◌&&◌}
 use Rattle.std.proofs.lemmas.Slice.Eq.{bytes_eq-Decides}
 use Rattle.std.proofs.lemmas.List.{take-append-drop}
-use Rattle.resp_stream.specs.Parse.{parse, requests_of}
+use Rattle.resp_stream.specs.Parse.{parse}
 use Rattle.resp_stream.proofs.Onward.{GoesOn}
 use Rattle.serial_model.specs.declared.history.Limits.{Limits}
 use Rattle.serial_model.specs.declared.history.Entry.{Entry}
 use Rattle.serial_model.specs.declared.history.BookCall.TheVariants as call
 use Rattle.serial_model.specs.declared.history.BookReply.{BookReply}
-use Rattle.serial_model.specs.declared.history.Entry.TheVariants as entry
-use Rattle.serial_model.specs.History.{reads_on, gives_on, stream, taken, runs_of}
+use Rattle.serial_model.specs.History.{has_ended, reads_on, gives_on, stream, taken, runs_of}
+use Rattle.serial_model.specs.History.{unsent}
 use Rattle.serial_model.specs.Steps.{Turn, book_step, given_by}
-use Rattle.serial_model.proofs.Standings.{ended_take, reads_same}
 use Rattle.serial_model.proofs.Turning.{step_gave, step_runs}
 use Rattle.server_links.specs.LinkEvent.{LinkEvent, Raw, Put, Over, Now, Tick}
 use Rattle.server_links.specs.declared.link.LinkMove.{LinkMove}
@@ -24,16 +24,20 @@ use Rattle.server_links.specs.Directions.{cut, finished, is_open, is_queued, put
 use Rattle.server_links.specs.Directions.{without_bytes, past_eof}
 use Rattle.server_links.specs.EntryLines.{reply_lines}
 use Rattle.server_links.specs.OneHistory.{read_on}
-use Rattle.server_links.specs.Outcome.{Outcome, stays}
+use Rattle.server_links.specs.Outcome.{Outcome, and_then, stays}
 use Rattle.server_links.specs.Session.{Session, with_past, with_link, with_up, with_down}
 use Rattle.server_links.specs.Moves.{turned, say, serve_all, bytes_of, take_down, all_bytes}
 use Rattle.server_links.specs.Moves.{send_all, send, cut_off, move_of, moved, hang_up, read_lines}
+use Rattle.server_links.specs.Moves.{end_down, with_end}
 use Rattle.server_links.specs.Moves.{eof_lines, read_bytes, read_eof, receive_all, receive, flow}
 use Rattle.std.proofs.lemmas.Bool.Decides.{nat_tests}
-use Rattle.server_links.proofs.Carries.{mute_reply, by_take, took, take_carries}
+use Rattle.server_links.proofs.Carries.{mute_reply, take_carries}
+use Rattle.server_links.proofs.Endings.{takes_same}
 use Rattle.server_links.proofs.Moving.{every_turned, every_read, every_serve_all, every_send_all}
-use Rattle.server_links.proofs.Accounts.{gave, Account, Part, account_part, Keeps, keeps_then}
-use Rattle.server_links.proofs.Accounts.{keeps_stays, keeps_once, keeps_quiet}
+use Rattle.server_links.proofs.Moving.{every_take}
+use Rattle.server_links.proofs.Accounts.{gave, Account, Part, Ran, account_part, ran_front}
+use Rattle.server_links.proofs.Accounts.{ran_grown, Keeps, keeps_then, keeps_stays, keeps_once}
+use Rattle.server_links.proofs.Accounts.{keeps_quiet}
 use Rattle.server_links.proofs.AccountRuns.{account_refuses, account_stays, reads_of}
 use Rattle.server_links.proofs.AccountRuns.{same_heard, same_id, serve_all_keeps, serve_keeps}
 
@@ -53,10 +57,7 @@ gave_take l c most past =
 
 take_reads : (l : Limits) (c most : ℕ) (past : List Entry)
     → reads_on l (book_step l past (call.Take c most)).past c ≡ reads_on l past c
-unfolding took
-take_reads l c most past = by_take l past c most (λ t. reads_on l t.past c
-    ≡ reads_on l past c) refl refl
-    (λ on. reads_same l past c (entry.Take c most) refl (ended_take l past c c most))
+take_reads l c most past = (takes_same l c past c most).0
 
 -- a Take was played, and what it gave is still to be put on the way
 record InHand (given heard said read : List ℕ) (s : Session) : Type 0 where
@@ -65,14 +66,19 @@ record InHand (given heard said read : List ℕ) (s : Session) : Type 0 where
   none_up : is_open s.link.up.eof ≡ true → up_lost ≡ []
   opened : is_open s.link.down.eof ≡ true
   all_given : (read ++ s.link.down.bytes) ++ given ≡ gave s.limits s.link.id s.past
-  runs : runs_of s.link.id s.past ≡ requests_of heard
+  runs : Ran [] heard s.limits s.link.id s.past
   reading : reads_on s.limits s.past s.link.id ≡ true → GoesOn parse heard s.link.reader
 
 module _ (heard said : List ℕ) where
   hand_part : (given read : List ℕ) (s : Session) → InHand given heard said read s
       → Part said read s
   unfolding Part gave
-  hand_part given read s h = grind (arith, append-nil)
+  hand_part given read s h = record {
+    heard = heard;
+    up = record { lost = h.up_lost; all_said = h.all_said };
+    down = record { lost = given; all_taken = h.all_given };
+    runs_front = ran_front [] heard s.limits s.link.id s.past h.runs;
+  }
 
   take_in_hand : (most : ℕ) (read : List ℕ) (s : Session) → is_open s.link.down.eof ≡ true
       → Account heard said read s →
@@ -80,14 +86,16 @@ module _ (heard said : List ℕ) where
       InHand (bytes_of t.reply) heard said read (with_past s t.past)
   take_in_hand most read s opened a =
       let t = book_step s.limits s.past (call.Take s.link.id most) in
+      let k = take_carries s most in
       record {
         up_lost = a.bytes.up_lost;
         all_said = a.bytes.all_said;
         none_up = a.bytes.none_up;
         opened = opened;
         all_given = grind (arith, append-nil, gave_take);
-        runs = sym (step_runs s.limits s.link.id s.past (call.Take s.link.id most))
-            ∙ append-nil (runs_of s.link.id s.past) ∙ a.runs;
+        runs = ran_grown [] heard s.limits s.link.id k.entries s.past t.past k.grows
+            (sym (step_runs s.limits s.link.id s.past (call.Take s.link.id most))
+            ∙ append-nil (runs_of s.link.id s.past)) a.runs;
         reading = λ on. a.reading (sym (take_reads s.limits s.link.id most s.past) ∙ on);
       }
 
@@ -120,18 +128,42 @@ module _ (heard said : List ℕ) where
       → Account heard said read (with_link s (with_down s.link (finished s.link.down)))
   finished_account read s a = grind arith
 
+  -- the EOF follows the last bytes
+  end_account : (read : List ℕ) (s : Session) → Account heard said read s
+      → Account heard said read (with_end s)
+  end_account read s a =
+      elim (has_ended s.limits s.link.id s.past
+      && (length (unsent s.limits s.link.id s.past) == 0)) as (λ b. Account heard said read
+      (cond b (with_link s (with_down s.link (finished s.link.down))) s)) [
+        | true ↦ finished_account read s a
+        | false ↦ a
+      ]
+
+  end_keeps : (s : Session)
+      → Keeps (Account heard said) (Account heard said) (Part said) s (end_down s)
+  end_keeps s =
+      keeps_stays (Account heard said) (Account heard said) (Part said) s (with_end s)
+      (λ read a. let n = end_account read s a in (n, account_part heard said read (with_end s) n))
+
+  take_end_keeps : (most : ℕ) (s : Session) → is_open s.link.down.eof ≡ true
+      → Keeps (Account heard said) (Account heard said) (Part said) s
+      (and_then (take_down most s) end_down)
+  take_end_keeps most s opened =
+      keeps_then (Account heard said) (Account heard said) (Account heard said) (Part said) s
+      (take_down most s) end_down (every_take most s) (take_keeps most s opened) end_keeps
+
   send_all_keeps : (s : Session)
       → Keeps (Account heard said) (Account heard said) (Part said) s (send_all s)
   send_all_keeps s =
       let ended = with_link s (with_down s.link (finished s.link.down)) in
       elim (is_open s.link.down.eof) as (λ b. is_open s.link.down.eof ≡ b
       → Keeps (Account heard said) (Account heard said) (Part said) s
-      (cond b (cond (gives_on s.limits s.past s.link.id) (take_down all_bytes s) (stays ended))
-      (stays s))) [
+      (cond b (cond (gives_on s.limits s.past s.link.id)
+      (and_then (take_down all_bytes s) end_down) (stays ended)) (stays s))) [
         | true ↦ λ opened. elim (gives_on s.limits s.past s.link.id) as (λ b. Keeps
             (Account heard said) (Account heard said) (Part said) s
-            (cond b (take_down all_bytes s) (stays ended))) [
-              | true ↦ take_keeps all_bytes s opened
+            (cond b (and_then (take_down all_bytes s) end_down) (stays ended))) [
+              | true ↦ take_end_keeps all_bytes s opened
               | false ↦ keeps_stays (Account heard said) (Account heard said) (Part said) s ended
                   (λ read a. let n = finished_account read s a in
                   (n, account_part heard said read ended n))
@@ -141,7 +173,8 @@ module _ (heard said : List ℕ) where
 
   send_keeps : (count : Option ℕ) (s : Session)
       → Keeps (Account heard said) (Account heard said) (Part said) s (send count s)
-  send_keeps count s = grind (arith, send_all_keeps, take_keeps, nat_tests, account_refuses)
+  send_keeps count s =
+      grind (arith, send_all_keeps, take_end_keeps, nat_tests, account_refuses)
 
   -- ---- the client's end
 

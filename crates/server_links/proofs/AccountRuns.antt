@@ -1,24 +1,22 @@
 -- What is heard and runs, in the account of a link.
 use Rattle.std.proofs.Common.{◌≡◌, ℕ, List, [], ◌∷◌, ◌++◌, Bool, true, false, cond, max, Some, None}
 use Rattle.std.proofs.Common.{Option, length, take, refl, sym, ap, subst, ◌∙◌, append_assoc}
-use Rattle.std.proofs.Common.{append-nil, eq-eqb, arith}
+use Rattle.std.proofs.Common.{append-nil, eq-eqb, arith, inl, inr}
 use Rattle.std.specs.Prelude.{◌==◌, ◌&&◌, nat_le}
-use Rattle.std.proofs.lemmas.Bool.{both_ways}
+use Rattle.std.proofs.lemmas.Bool.{both_ways, cases_Bool}
 use Rattle.std.proofs.lemmas.List.{take-append-drop}
 use Rattle.resp_stream.specs.declared.fault.StreamFault.{StreamFault}
 use Rattle.resp_stream.specs.declared.fault.FaultPlace.{FaultPlace}
 use Rattle.resp_stream.specs.Stream.{Stream, fed}
-use Rattle.resp_stream.specs.Parse.{parse}
+use Rattle.resp_stream.specs.Parse.{parse, requests_of}
 use Rattle.resp_stream.proofs.Onward.{GoesOn, goes_further, requests_join}
 use Rattle.serial_model.specs.declared.history.Limits.{Limits}
 use Rattle.serial_model.specs.declared.history.Entry.{Entry}
-use Rattle.serial_model.specs.declared.history.Entry.TheVariants as entry
 use Rattle.serial_model.specs.declared.history.BookCall.TheVariants as call
-use Rattle.serial_model.specs.History.{latest, reads_on, stream, taken, runs_of}
-use Rattle.serial_model.specs.Steps.{Turn, book_step, running}
-use Rattle.serial_model.proofs.Standings.{ended_run, reads_same, unread}
-use Rattle.serial_model.proofs.Streams.{ended_close, reads_is_runs}
-use Rattle.serial_model.proofs.Turning.{step_gave, step_runs, run_step, close_step}
+use Rattle.serial_model.specs.History.{latest, reads_on, stream, taken, runs_of, runs_on}
+use Rattle.serial_model.specs.Steps.{Turn, book_step, gone, running}
+use Rattle.serial_model.proofs.Standings.{reads_run}
+use Rattle.serial_model.proofs.Turning.{step_gave, step_runs, run_step}
 use Rattle.server_links.specs.declared.direction.Direction.{Direction}
 use Rattle.server_links.specs.declared.fault.WorldFault.TheVariants.{NothingThere}
 use Rattle.server_links.specs.Directions.{is_open, without}
@@ -31,13 +29,14 @@ use Rattle.server_links.specs.Moves.{rest_read, run_requests, run_fed, stopped_a
 use Rattle.server_links.specs.Moves.{serve}
 use Rattle.server_links.proofs.Outcomes.{Meets}
 use Rattle.server_links.proofs.FaultPlaces.{parse_met}
-use Rattle.server_links.proofs.Carries.{mute_reply, carries_link}
+use Rattle.server_links.proofs.Carries.{mute_reply, carries_link, close_carries}
+use Rattle.server_links.proofs.Endings.{passed_quit, runs_unquit, unread_then}
 use Rattle.server_links.specs.Transcript.{up_to}
 use Rattle.server_links.proofs.Moving.{every_quiet, every_does, every_run_one, every_run_all}
 use Rattle.server_links.proofs.Moving.{every_run_requests}
 use Rattle.server_links.proofs.Accounts.{gave, InFlight, Account, Running, Halted, Part}
-use Rattle.server_links.proofs.Accounts.{account_part, running_part, halted_part, Keeps, keeps_then}
-use Rattle.server_links.proofs.Accounts.{keeps_stays, keeps_refuses, keeps_quiet}
+use Rattle.server_links.proofs.Accounts.{account_part, running_part, halted_part, ran_grown, Keeps}
+use Rattle.server_links.proofs.Accounts.{keeps_then, keeps_stays, keeps_refuses, keeps_quiet}
 
 pub same_id : (c : ℕ) → (c == c) ≡ true
 same_id c = eq-eqb c c refl
@@ -61,34 +60,69 @@ unfolding gave
 gave_close l c past = sym (step_gave l c past (call.Close c))
     ∙ append-nil (take (taken l c past) (stream l c past))
 
--- a connection that was closed is read no more
-unread_then : (l : Limits) (c : ℕ) (past : List Entry) → reads_on l past c ≡ true
-    → reads_on l (book_step l past (call.Close c)).past c ≡ false
-unread_then l c past on =
-    ap (λ (t : Turn). reads_on l t.past c) (close_step l past c on)
-    ∙ unread l (entry.Close c ∷ past) c (ended_close l past c c (same_id c))
+gone_step : (l : Limits) (past : List Entry) (c now : ℕ) (words : List (List ℕ))
+    → runs_on l past c ≡ false → book_step l past (call.Run c words now) ≡ gone past c
+unfolding book_step
+gone_step l past c now words off =
+    ap (λ b. cond b (running past c words now) (gone past c)) off
 
-module _ (heard said : List ℕ) where
-  run_done : (words : List (List ℕ)) (todo : List (List (List ℕ))) (read : List ℕ) (s : Session)
-      → Running (words ∷ todo) heard said read s →
-      let t : Turn = book_step s.limits s.past (call.Run s.link.id words s.now) in
-      Running todo heard said read (with_past s t.past)
-  run_done words todo read s r =
-      let c = s.link.id in
-      let is = run_step s.limits s.past c s.now words
-      (sym (reads_is_runs s.limits s.past c) ∙ r.on) in
+ran_one : (runs passed todo all : List (List (List ℕ))) (words : List (List ℕ)) → passed ≡ []
+    → (runs ++ passed) ++ words ∷ todo ≡ all → ((runs ++ words ∷ []) ++ []) ++ todo ≡ all
+ran_one runs passed todo all words none e = grind (arith, append-nil, append_assoc)
+
+passed_one : (runs passed todo all : List (List (List ℕ))) (words : List (List ℕ))
+    → (runs ++ passed) ++ words ∷ todo ≡ all → (runs ++ (passed ++ words ∷ [])) ++ todo ≡ all
+passed_one runs passed todo all words e = grind (arith, append_assoc)
+
+module _ (heard said : List ℕ) (words : List (List ℕ)) (todo : List (List (List ℕ)))
+    (read : List ℕ) (s : Session) (r : Running (words ∷ todo) heard said read s) where
+  abbrev c : ℕ
+  c = s.link.id
+
+  -- a request runs
+  done_run : runs_on s.limits s.past c ≡ true
+      → Running todo heard said read (with_past s (running s.past c words s.now).past)
+  done_run on =
+      let is = run_step s.limits s.past c s.now words on in
       let at = max s.now (latest s.past) in
-      let new : Running todo heard said read
-      (with_past s (running s.past c words s.now).past) = record {
+      record {
         bytes = flight_past heard said read s (running s.past c words s.now).past
             (ap (λ (t : Turn). gave s.limits c t.past) (sym is)
             ∙ gave_run s.limits c s.now words s.past) r.bytes;
-        on = reads_same s.limits s.past c (entry.Run c words at) refl
-            (ended_run s.limits s.past c c at words) ∙ r.on;
-        runs = grind (arith, same_id, append_assoc);
-      } in
-      subst (λ (t : Turn). Running todo heard said read (with_past s t.past)) (sym is) new
+        on = reads_run s.limits s.past c c at words ∙ r.on;
+        runs = record {
+          passed = [];
+          all = ap (λ b. (cond b (runs_of c s.past ++ words ∷ []) (runs_of c s.past) ++ []) ++ todo)
+              (same_id c)
+              ∙ ran_one (runs_of c s.past) r.runs.passed todo (requests_of heard) words
+              (r.runs.none (runs_unquit s.limits c s.past on)) r.runs.all;
+          none = λ h. refl;
+        };
+      }
 
+  -- or it is passed over
+  done_pass : runs_on s.limits s.past c ≡ false
+      → Running todo heard said read (with_past s (gone s.past c).past)
+  done_pass off = record {
+    bytes = r.bytes;
+    on = r.on;
+    runs = record {
+      passed = r.runs.passed ++ words ∷ [];
+      all = passed_one (runs_of c s.past) r.runs.passed todo (requests_of heard) words r.runs.all;
+      none = λ h. absurd (both_ways _ h (passed_quit s.limits c s.past r.on off));
+    };
+  }
+
+  run_done : let t : Turn = book_step s.limits s.past (call.Run c words s.now) in
+      Running todo heard said read (with_past s t.past)
+  run_done =
+      let P : Turn → Type 0 = λ t. Running todo heard said read (with_past s t.past) in
+      elim (cases_Bool (runs_on s.limits s.past c)) [
+        | inl on ↦ subst P (sym (run_step s.limits s.past c s.now words on)) (done_run on)
+        | inr off ↦ subst P (sym (gone_step s.limits s.past c s.now words off)) (done_pass off)
+      ]
+
+module _ (heard said : List ℕ) where
   run_turn_keeps : (words : List (List ℕ)) (todo : List (List (List ℕ))) (s : Session)
       → Keeps (Running (words ∷ todo) heard said) (Running todo heard said) (Part said) s
       (turned s words (book_step s.limits s.past (call.Run s.link.id words s.now)))
@@ -97,7 +131,7 @@ module _ (heard said : List ℕ) where
       keeps_quiet (Running (words ∷ todo) heard said) (Running todo heard said) (Part said) s
       (with_past s t.past) (reply_lines s.link.name words t.reply) None
       (mute_reply s.link.name s.link.name words t.reply)
-      (λ read r. let d = run_done words todo read s r in (
+      (λ read r. let d = run_done heard said words todo read s r in (
         running_part (words ∷ todo) heard said read s r,
         (λ e. d),
         running_part todo heard said read
@@ -153,7 +187,7 @@ module _ (heard said : List ℕ) where
       let h : Halted p.fault heard said read (with_link t (with_reader t.link p.stream)) = record {
         bytes = grind arith;
         on = r.on;
-        runs = sym (append-nil (runs_of t.link.id t.past)) ∙ r.runs;
+        runs = r.runs;
         reading = reading;
       } in
       (running_part [] heard said read t r, (λ e. h), halted_part p.fault heard said read _ h)))
@@ -165,14 +199,16 @@ module _ (heard said : List ℕ) where
   unfolding close turn
   close_keeps fault s =
       let t = book_step s.limits s.past (call.Close s.link.id) in
+      let k = close_carries s in
       keeps_quiet (Halted fault heard said) (Account heard said) (Part said) s (with_past s t.past)
       (reply_lines s.link.name [] t.reply) None
       (mute_reply s.link.name s.link.name [] t.reply)
       (λ read h.
       let a : Account heard said read (with_past s t.past) = record {
         bytes = flight_past heard said read s t.past (gave_close s.limits s.link.id s.past) h.bytes;
-        runs = sym (step_runs s.limits s.link.id s.past (call.Close s.link.id))
-            ∙ append-nil (runs_of s.link.id s.past) ∙ h.runs;
+        runs = ran_grown [] heard s.limits s.link.id k.entries s.past t.past k.grows
+            (sym (step_runs s.limits s.link.id s.past (call.Close s.link.id))
+            ∙ append-nil (runs_of s.link.id s.past)) h.runs;
         reading = λ on. absurd (both_ways _ (unread_then s.limits s.link.id s.past h.on) on);
       } in
       (halted_part fault heard said read s h, (λ e. a), account_part heard said read _ a))
@@ -226,7 +262,17 @@ module _ (heard said piece : List ℕ) (up : Direction) (eof : Bool) (s : Sessio
   fed_running : (read : List ℕ) → Account heard said read s
       → Running (parse (fed s.link.reader piece)).items (heard ++ piece) said read fed_session
   unfolding fed_session
-  fed_running read a = grind (arith, fed_flight)
+  fed_running read a = record {
+    bytes = fed_flight read a.bytes;
+    on = on;
+    runs = record {
+      passed = a.runs.passed;
+      all = ap (λ x. x ++ (parse (fed s.link.reader piece)).items)
+          (sym (append-nil (runs_of s.link.id s.past ++ a.runs.passed)) ∙ a.runs.all)
+          ∙ sym ((a.reading on).further piece);
+      none = a.runs.none;
+    };
+  }
 
   Fed : List ℕ → Session → Type 0
   Fed read t = (t ≡ fed_session) × Running (parse (fed s.link.reader piece)).items (heard

@@ -1,9 +1,8 @@
 -- The account of a link: what was put on it and what was taken for it are heard or read, in flight
--- or
--- lost, and what its server's end heard ran. Each move keeps it, and wherever memory runs out a
--- part of
--- it stands.
-use Rattle.std.proofs.Common.{◌≡◌, ℕ, List, [], ◌∷◌, ◌++◌, true, None, Option, take, sym, ap}
+-- or lost, and what its server's end heard ran, or stands behind a QUIT. Each move keeps it, and
+-- wherever memory runs out a part of it stands.
+use Rattle.std.proofs.Common.{◌≡◌, ℕ, List, [], ◌∷◌, ◌++◌, true, false, None, Option, take, sym}
+use Rattle.std.proofs.Common.{ap}
 use Rattle.std.proofs.Common.{◌∙◌, append_assoc, append-nil, arith}
 use Rattle.resp_value.specs.Lists.{IsPrefix}
 use Rattle.resp_stream.specs.declared.fault.StreamFault.{StreamFault}
@@ -15,12 +14,13 @@ use Rattle.serial_model.specs.History.{reads_on, stream, taken, runs_of}
 use Rattle.script_text.specs.declared.line.Line.{Line}
 use Rattle.server_links.specs.declared.fault.WorldFault.TheVariants.{NothingThere}
 use Rattle.server_links.specs.Directions.{is_open}
-use Rattle.server_links.specs.OneHistory.{read_on, PartServes}
+use Rattle.server_links.specs.OneHistory.{ended_early, read_on, PartServes}
 use Rattle.server_links.specs.Outcome.{Outcome, stays, refuses, and_then}
 use Rattle.server_links.specs.Session.{Session}
 use Rattle.server_links.proofs.Outcomes.{Meets, meets_stays, meets_once, meets_refuses, meets_then}
 use Rattle.server_links.proofs.Outcomes.{meets_weaker}
 use Rattle.server_links.proofs.Carries.{read_more}
+use Rattle.server_links.proofs.Endings.{early_before}
 use Rattle.server_links.proofs.Moving.{Every, every_named}
 
 -- the first bytes of a stream, those that were taken
@@ -35,9 +35,34 @@ pub record InFlight (heard said read : List ℕ) (s : Session) : Type 0 where
   pub all_taken : (read ++ s.link.down.bytes) ++ down_lost ≡ gave s.limits s.link.id s.past
   pub none_down : is_open s.link.down.eof ≡ true → down_lost ≡ []
 
+-- what was heard ran, or was passed over since it stands behind a QUIT, or is still to run
+pub record Ran (todo : List (List (List ℕ))) (heard : List ℕ) (l : Limits) (c : ℕ)
+    (past : List Entry) : Type 0 where
+  pub passed : List (List (List ℕ))
+  pub all : (runs_of c past ++ passed) ++ todo ≡ requests_of heard
+  pub none : ended_early l c past ≡ false → passed ≡ []
+
+-- entries that run nothing of it leave that
+pub ran_grown : (todo : List (List (List ℕ))) (heard : List ℕ) (l : Limits) (c : ℕ)
+    (entries past new : List Entry) → new ≡ entries ++ past → runs_of c new ≡ runs_of c past
+    → Ran todo heard l c past → Ran todo heard l c new
+ran_grown todo heard l c entries past new grows same r = record {
+  passed = r.passed;
+  all = ap (λ x. (x ++ r.passed) ++ todo) same ∙ r.all;
+  none = λ h. r.none (early_before l c entries past
+      (sym (ap (ended_early l c) grows) ∙ h));
+}
+
+pub ran_front : (todo : List (List (List ℕ))) (heard : List ℕ) (l : Limits) (c : ℕ)
+    (past : List Entry) → Ran todo heard l c past → IsPrefix (runs_of c past) (requests_of heard)
+ran_front todo heard l c past r = (
+  r.passed ++ todo,
+  sym (append_assoc (runs_of c past) r.passed todo) ∙ r.all,
+)
+
 pub record Account (heard said read : List ℕ) (s : Session) : Type 0 where
   pub bytes : InFlight heard said read s
-  pub runs : runs_of s.link.id s.past ≡ requests_of heard
+  pub runs : Ran [] heard s.limits s.link.id s.past
   pub reading : reads_on s.limits s.past s.link.id ≡ true → GoesOn parse heard s.link.reader
 
 -- these requests are still to run
@@ -45,14 +70,14 @@ pub record Running (todo : List (List (List ℕ))) (heard said read : List ℕ) 
   where
     pub bytes : InFlight heard said read s
     pub on : reads_on s.limits s.past s.link.id ≡ true
-    pub runs : runs_of s.link.id s.past ++ todo ≡ requests_of heard
+    pub runs : Ran todo heard s.limits s.link.id s.past
 
 -- all ran, up to this fault
 pub record Halted (fault : Option StreamFault) (heard said read : List ℕ) (s : Session) : Type 0
   where
     pub bytes : InFlight heard said read s
     pub on : reads_on s.limits s.past s.link.id ≡ true
-    pub runs : runs_of s.link.id s.past ≡ requests_of heard
+    pub runs : Ran [] heard s.limits s.link.id s.past
     pub reading : fault ≡ None → GoesOn parse heard s.link.reader
 
 unfoldable pub Part : List ℕ → List ℕ → Session → Type 0
@@ -65,21 +90,18 @@ part_of heard said read s b front = grind arith
 
 pub account_part : (heard said read : List ℕ) (s : Session) → Account heard said read s
     → Part said read s
-account_part heard said read s a = part_of heard said read s a.bytes (
-  [],
-  append-nil (runs_of s.link.id s.past) ∙ a.runs,
-)
+account_part heard said read s a =
+    part_of heard said read s a.bytes (ran_front [] heard s.limits s.link.id s.past a.runs)
 
 pub running_part : (todo : List (List (List ℕ))) (heard said read : List ℕ) (s : Session)
     → Running todo heard said read s → Part said read s
-running_part todo heard said read s r = part_of heard said read s r.bytes (todo, r.runs)
+running_part todo heard said read s r =
+    part_of heard said read s r.bytes (ran_front todo heard s.limits s.link.id s.past r.runs)
 
 pub halted_part : (fault : Option StreamFault) (heard said read : List ℕ) (s : Session)
     → Halted fault heard said read s → Part said read s
-halted_part fault heard said read s h = part_of heard said read s h.bytes (
-  [],
-  append-nil (runs_of s.link.id s.past) ∙ h.runs,
-)
+halted_part fault heard said read s h =
+    part_of heard said read s h.bytes (ran_front [] heard s.limits s.link.id s.past h.runs)
 
 -- ---- one move after another
 

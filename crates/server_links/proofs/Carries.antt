@@ -1,26 +1,23 @@
 -- What every move over one link leaves of the rest: the names, the other connections, and a history
 -- whose new entries have their lines.
-use Rattle.std.proofs.Common.{◌≡◌, ◌+◌, ℕ, List, [], ◌∷◌, ◌++◌, true, false, length, take, max}
+use Rattle.std.proofs.Common.{◌≡◌, ◌+◌, ℕ, List, [], ◌∷◌, ◌++◌, false, length, max}
 use Rattle.std.proofs.Common.{filter, refl, sym, ap, subst, ◌∙◌, arith, append_assoc, append-nil}
-use Rattle.std.proofs.Common.{eq-eqb, length-take, length-drop}
 use Rattle.std.specs.Prelude.{◌==◌}
 use Rattle.std.specs.Str.{bytes_eq}
 use Rattle.std.proofs.lemmas.Grind.{flat_map-append}
 use Rattle.serial_model.specs.declared.history.Limits.{Limits}
 use Rattle.serial_model.specs.declared.history.Entry.{Entry}
-use Rattle.serial_model.specs.declared.history.Entry.TheVariants as entry
 use Rattle.serial_model.specs.declared.history.BookCall.{BookCall}
 use Rattle.serial_model.specs.declared.history.BookCall.TheVariants as call
 use Rattle.serial_model.specs.declared.history.BookReply.{BookReply}
-use Rattle.serial_model.specs.declared.history.BookReply.TheVariants.{Quiet, Bytes}
-use Rattle.serial_model.specs.History.{admitted, gives_on, unsent, IsLegal}
-use Rattle.serial_model.specs.Steps.{Turn, book_step, gone, running, taking, closing}
+use Rattle.serial_model.specs.History.{admitted, IsLegal}
+use Rattle.serial_model.specs.Steps.{Turn, book_step}
 use Rattle.serial_model.specs.Laws.{Extends}
 use Rattle.serial_model.proofs.Others.{extends_none, extends_more, others_extend}
-use Rattle.serial_model.proofs.Standings.{gives_live}
-use Rattle.serial_model.proofs.Streams.{unsent_live}
+use Rattle.serial_model.proofs.StepCases.{by_close, by_run, by_take}
 use Rattle.serial_model.proofs.Turning.{step_legal}
 use Rattle.script_text.specs.declared.line.Line.{Line}
+use Rattle.script_text.specs.declared.line.Line.TheVariants as line
 use Rattle.server_links.specs.declared.link.Link.{Link}
 use Rattle.server_links.specs.Clock.{AreTimedBy, moments}
 use Rattle.server_links.specs.Directions.{spent}
@@ -28,6 +25,7 @@ use Rattle.server_links.specs.EntryLines.{entry_lines, is_entry_line, name_of, r
 use Rattle.server_links.specs.OneHistory.{read_by, read_on}
 use Rattle.server_links.specs.Session.{Session, with_past, with_link}
 use Rattle.server_links.proofs.Clock.{by_both, latest_is}
+use Rattle.server_links.proofs.Endings.{took_length}
 
 pub read_more : (name : List ℕ) (xs ys : List Line)
     → read_on name (xs ++ ys) ≡ read_on name xs ++ read_on name ys
@@ -121,33 +119,6 @@ carries_none s = carries_link s s.link [] refl refl (λ name n. refl) refl (λ h
 
 -- ---- turns of the connection
 
-pub by_run : (l : Limits) (past : List Entry) (id now : ℕ) (words : List (List ℕ)) (P : Turn
-    → Type 0)
-    → P (gone past id) → P (running past id words now)
-    → P (book_step l past (call.Run id words now))
-unfolding book_step
-by_run l past id now words P g r = grind arith
-
-pub by_close : (l : Limits) (past : List Entry) (id : ℕ) (P : Turn → Type 0) → P (gone past id)
-    → P (closing past id) → P (book_step l past (call.Close id))
-unfolding book_step
-by_close l past id P g c = grind arith
-
-unfoldable pub took : List Entry → ℕ → ℕ → List ℕ → Turn
-took past id most bytes =
-    record { reply = Bytes (length past + 1) bytes; past = entry.Take id most ∷ past }
-
-module _ (l : Limits) (past : List Entry) (id most : ℕ) (P : Turn
-    → Type 0) (g : P (gone past id)) (q : P (record { reply = Quiet; past = past })) where
-  by_taking : (bytes : List ℕ) → P (took past id most bytes) → P (taking past id most bytes)
-  unfolding took
-  by_taking bytes t = grind arith
-
-  pub by_take : (gives_on l past id ≡ true → P (took past id most (take most (unsent l id past))))
-      → P (book_step l past (call.Take id most))
-  unfolding book_step
-  by_take t = grind (arith, by_taking)
-
 -- what a turn of the connection adds, and prints
 record Adds (l : Limits) (id now : ℕ) (words : List (List ℕ)) (past : List Entry)
     (t : Turn) : Type 0 where
@@ -174,9 +145,9 @@ adds_nothing l id now words past reply none = record {
 
 run_adds : (l : Limits) (past : List Entry) (id now : ℕ) (words : List (List ℕ))
     → Adds l id now words past (book_step l past (call.Run id words now))
-run_adds l past id now words = by_run l past id now words (Adds l id now words past)
+run_adds l past id now words = by_run l past (Adds l id now words past) id words now
     (adds_nothing l id now words past _ (λ names. refl))
-    (record {
+    (λ on. record {
       count = refl;
       entries = _ ∷ [];
       grows = refl;
@@ -187,9 +158,9 @@ run_adds l past id now words = by_run l past id now words (Adds l id now words p
 close_adds : (l : Limits) (past : List Entry) (id now : ℕ)
     → Adds l id now [] past (book_step l past (call.Close id))
 close_adds l past id now =
-    by_close l past id (Adds l id now [] past)
+    by_close l past (Adds l id now [] past) id
     (adds_nothing l id now [] past _ (λ names. refl))
-    (record {
+    (λ on. record {
       count = refl;
       entries = _ ∷ [];
       grows = refl;
@@ -199,16 +170,17 @@ close_adds l past id now =
 
 take_adds : (l : Limits) (past : List Entry) (id now most : ℕ)
     → Adds l id now [] past (book_step l past (call.Take id most))
-unfolding took
-take_adds l past id now most = by_take l past id most (Adds l id now [] past)
+take_adds l past id now most = by_take l past (Adds l id now [] past) id most
     (adds_nothing l id now [] past _ (λ names. refl))
     (adds_nothing l id now [] past _ (λ names. refl))
-    (λ on. record {
+    (λ on some. record {
       count = refl;
       entries = _ ∷ [];
       grows = refl;
       timed = λ legal. tt;
-      printed = grind (arith, unsent_live, gives_live, length-take, length-drop, eq-eqb);
+      printed = λ names. ap (λ n. entry_lines l names past
+          ++ line.Take (length past + 1) (name_of names id) n ∷ [])
+          (took_length l past id most some);
     })
 
 pub mute_reply : (name link : List ℕ) (words : List (List ℕ)) (reply : BookReply)

@@ -1,30 +1,35 @@
 -- A link that flows has nothing in flight then, and nothing left to send.
 use Rattle.std.proofs.Common.{◌≡◌, ◌<◌, ◌≤◌, ℕ, List, [], ◌∷◌, Bool, true, false, cond, Some, None}
-use Rattle.std.proofs.Common.{Option, length, take, refl, sym, ap, subst, ◌∙◌, arith, eq-eqb}
+use Rattle.std.proofs.Common.{Option, length, take, drop, refl, sym, ap, subst, ◌∙◌, arith}
+use Rattle.std.proofs.Common.{eq-eqb, zero, suc}
+use Rattle.std.specs.Prelude.{◌==◌, ◌&&◌}
 use Rattle.std.specs.Prelude.{position, slice_set}
 use Rattle.std.specs.Str.{bytes_eq}
-use Rattle.std.proofs.lemmas.List.{drop_all, length-drop, get_or-set_same}
+use Rattle.std.proofs.lemmas.Bool.{and_from, both_ways}
+use Rattle.std.proofs.lemmas.List.{drop_all, get_or-set_same}
 use Rattle.resp_stream.specs.declared.fault.FaultPlace.{FaultPlace}
 use Rattle.resp_stream.specs.Parse.{parse}
 use Rattle.serial_model.specs.declared.history.Limits.{Limits}
 use Rattle.serial_model.specs.declared.history.Entry.{Entry}
 use Rattle.serial_model.specs.declared.history.BookCall.TheVariants as call
-use Rattle.serial_model.specs.History.{reads_on, gives_on, is_admitted, stream, unsent}
+use Rattle.serial_model.specs.History.{has_ended, reads_on, gives_on, is_admitted, stream, unsent}
 use Rattle.serial_model.specs.Steps.{Turn, book_step, taking}
-use Rattle.serial_model.proofs.Standings.{ended_take, gives_live, gives_over}
-use Rattle.serial_model.proofs.Streams.{stream_take, unsent_ended, unsent_live, unsent_take_own}
+use Rattle.serial_model.proofs.Streams.{stream_take, unsent_taken}
 use Rattle.server_links.specs.declared.link.Link.{Link}
 use Rattle.server_links.specs.declared.link.LinkMove.TheVariants as moves
-use Rattle.server_links.specs.Directions.{is_open, is_queued, past_eof, without_bytes}
+use Rattle.server_links.specs.declared.direction.Eof.{Eof}
+use Rattle.server_links.specs.Directions.{eof_read, finished, is_open, is_queued, past_eof, queued}
+use Rattle.server_links.specs.Directions.{without_bytes}
 use Rattle.server_links.specs.LinkEvent.{LinkEvent, Over}
 use Rattle.server_links.specs.Moves.{turned, turn, next_read, run_one, run_all, close, stop}
 use Rattle.server_links.specs.Moves.{rest_read, run_requests, run_fed, stopped_at, feed, serve_all}
 use Rattle.server_links.specs.Moves.{take_down, all_bytes, send_all, receive_all, flow, read_bytes}
-use Rattle.server_links.specs.Moves.{read_eof, move_of}
+use Rattle.server_links.specs.Moves.{read_eof, move_of, end_down}
 use Rattle.server_links.specs.OneHistory.{FlowDelivers}
 use Rattle.server_links.specs.Outcome.{Outcome, and_then, does, stays, within}
-use Rattle.server_links.specs.Session.{Session, session_at, with_session}
+use Rattle.server_links.specs.Session.{Session, session_at, with_down, with_link, with_session}
 use Rattle.server_links.proofs.Carries.{Carries}
+use Rattle.server_links.proofs.Endings.{unsent_le, unsent_none}
 use Rattle.server_links.proofs.Events.{step_is}
 use Rattle.server_links.proofs.Moving.{every_serve_all, every_move}
 use Rattle.server_links.proofs.Names.{AreUnique, place_is, placed}
@@ -84,63 +89,119 @@ heard_serve s on opened =
     (run_fed (is_queued s.link.up.eof)) (λ e. (refl, opened))
     (heard_run_fed (is_queued s.link.up.eof)))
 
--- nothing is left to send, unless it is more than one Take can ask for
+-- all that was sent can be asked for by one Take
+abbrev pub IsFew : Session → Type 0
+IsFew s = length (stream s.limits s.link.id s.past) ≤ all_bytes
+
+-- nothing is left to send then
+unfoldable Taken : Session → Type 0
+Taken s = (s.link.up.bytes ≡ []) × (IsFew s → unsent s.limits s.link.id s.past ≡ [])
+
+-- and the EOF was sent too, where the connection has ended
 unfoldable pub Given : Session → Type 0
-Given s = (s.link.up.bytes ≡ []) × (length (stream s.limits s.link.id s.past) ≤ all_bytes
-    → unsent s.limits s.link.id s.past ≡ [])
+Given s = (s.link.up.bytes ≡ []) × (IsFew s → unsent s.limits s.link.id s.past ≡ [])
+    × (IsFew s → has_ended s.limits s.link.id s.past ≡ true → is_open s.link.down.eof ≡ false)
 
 pub no_bytes : (bytes : List ℕ) → length bytes ≡ 0 → bytes ≡ []
 no_bytes [] e = refl
 no_bytes (b ∷ bytes) e = absurd (let no : ⊥ = omega (arith, e) in no)
 
+not_open : (e : Eof) → is_open (queued e) ≡ false
+not_open e = grind arith
+
+took_all : (unsent stream : List ℕ) (most : ℕ) → length unsent ≤ length stream
+    → length stream ≤ most → drop most unsent ≡ []
+took_all unsent stream most le few = grind (arith, drop_all)
+
+none_taken : (bytes : List ℕ) (most : ℕ) → 0 < most → take most bytes ≡ [] → bytes ≡ []
+none_taken [] most more is = refl
+none_taken (b ∷ bytes) zero more is = absurd (let no : ⊥ = omega (arith, more) in no)
+none_taken (b ∷ bytes) (suc most) more is = absurd (let no : ⊥ = cc in no)
+
 taking_given : (l : Limits) (past : List Entry) (id most : ℕ) (bytes : List ℕ) → 0 < most
-    → gives_on l past id ≡ true → take most (unsent l id past) ≡ bytes →
+    → take most (unsent l id past) ≡ bytes →
     let t : Turn = taking past id most bytes in
     length (stream l id t.past) ≤ most → unsent l id t.past ≡ []
-taking_given l past id most bytes more on is =
-    grind (
-      arith,
-      gives_live,
-      ended_take,
-      unsent_live,
-      length-drop,
-      stream_take,
-      unsent_take_own,
-      eq-eqb,
-      drop_all,
-    )
+taking_given l past id most [] more is few = none_taken (unsent l id past) most more is
+taking_given l past id most (b ∷ bytes) more is few =
+    unsent_taken l past id id most (eq-eqb id id refl)
+    ∙ took_all (unsent l id past) (stream l id past) most (unsent_le l past id)
+    (subst (λ x. length x ≤ most) (stream_take l past id id most) few)
 
 some_bytes : 0 < all_bytes
 some_bytes = omega arith
 
 given_take : (s : Session) → s.link.up.bytes ≡ [] → gives_on s.limits s.past s.link.id ≡ true
-    → Ends Given (take_down all_bytes s)
-unfolding take_down book_step Ends Given
+    → Ends Taken (take_down all_bytes s)
+unfolding take_down book_step Ends Taken
 given_take s none on =
     let l = s.limits in
     let id = s.link.id in
     let t = book_step l s.past (call.Take id all_bytes) in
     let is : t ≡ taking s.past id all_bytes (take all_bytes (unsent l id s.past)) = grind arith in
-    ends_then Given Given (turned s [] t) _
-    (grind (arith, taking_given, some_bytes))
+    ends_then Taken Taken (turned s [] t) _
+    (λ e. (
+      none,
+      subst (λ (t : Turn). length (stream l id t.past) ≤ all_bytes → unsent l id t.past ≡ [])
+          (sym is)
+          (taking_given l s.past id all_bytes (take all_bytes (unsent l id s.past)) some_bytes
+          refl),
+    ))
     (λ u g e. g)
 
-ended_given : (l : Limits) (past : List Entry) (id : ℕ) → is_admitted past id ≡ true
-    → gives_on l past id ≡ false → unsent l id past ≡ []
-ended_given l past id on off = unsent_ended l past id (gives_over l past id on off)
+-- the EOF follows
+given_end : (s : Session) → Taken s → Ends Given (end_down s)
+unfolding Ends Given Taken
+given_end s g e =
+    let ended = has_ended s.limits s.link.id s.past in
+    let none = length (unsent s.limits s.link.id s.past) == 0 in
+    elim (ended && none) as (λ b. (ended && none) ≡ b
+    → Given (cond b (with_link s (with_down s.link (finished s.link.down))) s)) [
+      | true ↦ λ is. (g.0, g.1, λ few h. not_open s.link.down.eof)
+      | false ↦ λ is. (
+        g.0,
+        g.1,
+        λ few h. absurd (both_ways _ is (and_from _ _ h (ap (λ x. length x == 0) (g.1 few)))),
+      )
+    ] refl
+
+given_finished : (s : Session) → s.link.up.bytes ≡ [] → is_admitted s.past s.link.id ≡ true
+    → gives_on s.limits s.past s.link.id ≡ false
+    → Given (with_link s (with_down s.link (finished s.link.down)))
+unfolding Given
+given_finished s none there off = (
+  none,
+  λ few. unsent_none s.limits s.past s.link.id there off,
+  λ few h. not_open s.link.down.eof,
+)
 
 given_send : (s : Session) → Heard s → is_admitted s.past s.link.id ≡ true → Ends Given (send_all s)
-unfolding Heard Ends Given
-given_send s h on = grind (arith, given_take, ended_given)
+unfolding Heard Ends
+given_send s h on =
+    let ended = with_link s (with_down s.link (finished s.link.down)) in
+    let sent = and_then (take_down all_bytes s) end_down in
+    let on_is = gives_on s.limits s.past s.link.id in
+    subst (λ o. let m = cond o (cond on_is sent (stays ended)) (stays s) in
+    m.fault ≡ None → Given m.state) (sym h.1)
+    (elim on_is as (λ b. on_is ≡ b → let m = cond b sent (stays ended) in
+    m.fault ≡ None → Given m.state) [
+      | true ↦ λ is. ends_then Taken Given (take_down all_bytes s) end_down
+          (given_take s h.0 is) given_end
+      | false ↦ λ is e. given_finished s h.0 on is
+    ] refl)
 
 unfoldable pub Delivered : Session → Type 0
 Delivered s = Given s × (s.link.down.bytes ≡ [])
+
+still_shut : (e : Eof) → is_open e ≡ false → is_open (eof_read e) ≡ false
+still_shut e h = grind arith
 
 pub delivered_read : (s : Session) → Given s → Ends Delivered (receive_all s)
 unfolding receive_all Ends Given Delivered
 delivered_read s g =
     ends_then Delivered Delivered (read_bytes s.link.down.bytes (without_bytes s.link.down) s)
-    read_eof (λ e. (g, refl)) (λ t d e. d)
+    read_eof (λ e. (g, refl))
+    (λ t d e. ((d.0.0, d.0.1, λ few h. still_shut t.link.down.eof (d.0.2 few h)), d.1))
 
 still_admitted : (s : Session) → reads_on s.limits s.past s.link.id ≡ true
     → (serve_all s).fault ≡ None → is_admitted (serve_all s).state.past (serve_all s).state.link.id
@@ -230,4 +291,4 @@ flow_delivers w at unique below on up_open down_open none =
     subst Delivered (sym (session_is w at event name refl found none))
     (flow_delivered (session_at at w) (on, down_open)
     (sym (fault_is w at event name refl found) ∙ none)) in
-    record { up = d.0.0; down = d.1; sent = d.0.1 }
+    record { up = d.0.0; down = d.1; sent = d.0.1; ended = d.0.2 }

@@ -1,51 +1,58 @@
 -- Links that are over stay so whatever happens, and nothing flows over them.
-use Rattle.std.proofs.Common.{◌≡◌, ◌<◌, ℕ, List, [], ◌∷◌, ◌++◌, true, Some, None}
-use Rattle.std.proofs.Common.{Result, Ok, length, refl, sym, ap, subst, ◌∙◌, append-nil}
+use Rattle.std.proofs.Common.{◌≡◌, ◌+◌, ◌<◌, ℕ, List, [], ◌∷◌, ◌++◌, true, false, Some, None}
+use Rattle.std.proofs.Common.{Option, Result, Ok, length, refl, sym, ap, subst, ◌∙◌, append-nil}
 use Rattle.std.proofs.Common.{arith, eq-eqb}
 use Rattle.std.proofs.lemmas.Bool.{both_ways, cases_lt, eqb-true}
+use Rattle.std.proofs.lemmas.Bool.Decides.{nat_tests}
 use Rattle.std.proofs.lemmas.List.{get_or-set_same, get_or-set_other, get_or_append_left}
 use Rattle.std.proofs.lemmas.List.{get_or_past, set-get_or}
-use Rattle.serial_model.specs.declared.history.Limits.{Limits}
 use Rattle.serial_model.specs.declared.history.Entry.{Entry}
-use Rattle.serial_model.specs.History.{has_ended, reads_on}
-use Rattle.serial_model.proofs.Standings.{ended_admit, ended_more, reads_live, unread}
+use Rattle.serial_model.specs.declared.history.Entry.TheVariants as entry
+use Rattle.serial_model.specs.History.{admitted, is_admitted, reads_on}
+use Rattle.serial_model.specs.Steps.{Turn}
 use Rattle.serial_model.proofs.Turning.{admit_step}
 use Rattle.script_text.specs.declared.line.Line.{Line}
 use Rattle.server_links.specs.declared.direction.Direction.{Direction}
 use Rattle.server_links.specs.declared.fault.WorldFault.{WorldFault}
+use Rattle.server_links.specs.declared.fault.WorldFault.TheVariants.{NameTaken}
 use Rattle.server_links.specs.declared.link.Link.{Link}
 use Rattle.server_links.specs.declared.link.LinkMove.TheVariants as moves
 use Rattle.server_links.specs.Directions.{is_queued, past_eof, spent, without_bytes}
 use Rattle.server_links.specs.LinkEvent.{LinkEvent, Over, Raw}
-use Rattle.server_links.specs.LinkSteps.{over, over_named, place_of, step}
-use Rattle.server_links.specs.LinksState.{IsOver, LinksState, at_place}
+use Rattle.server_links.specs.LinkSteps.{admitting, over, over_named, place_of, raw_step, step}
+use Rattle.server_links.specs.LinksState.{Fits, IsOver, LinksState, at_place, fresh_link}
 use Rattle.server_links.specs.Moves.{eof_lines, flow, move_of, read_eof, read_lines, receive_all}
 use Rattle.server_links.specs.Moves.{send_all, serve_all}
 use Rattle.server_links.specs.Session.{Session, session_at, with_down, with_link, with_session}
 use Rattle.server_links.proofs.Carries.{Carries}
+use Rattle.server_links.proofs.Endings.{there_on, unread_on}
 use Rattle.server_links.proofs.Outcomes.{Ends, Meets, after_ends, gives_within, meets_once}
-
--- ---- a connection that has ended
-
-ended_on : (l : Limits) (c : ℕ) (entries past : List Entry) → has_ended l c past ≡ true
-    → has_ended l c (entries ++ past) ≡ true
-ended_on l c [] past h = h
-ended_on l c (e ∷ entries) past h =
-    ended_more l (entries ++ past) c e (ended_on l c entries past h)
+use Rattle.server_links.proofs.Outcomes.{meets_refuses}
 
 -- a link whose connection is read on is not over
 pub not_over : (w : LinksState) (at : ℕ)
     → reads_on w.limits w.past (at_place w.links at).id ≡ true → IsOver w at → ⊥
-not_over w at on over =
-    both_ways _ (reads_live w.limits w.past (at_place w.links at).id on) over.ended
+not_over w at on over = both_ways _ over.unread on
+
+-- a link whose connection is read no more is, once the EOF on the way down was read
+pub over_found : (w : LinksState) (at : ℕ) → Fits w.past w.links → at < length w.links
+    → reads_on w.limits w.past (at_place w.links at).id ≡ false
+    → (at_place w.links at).down ≡ spent → IsOver w at
+over_found w at fits below off read =
+    let there : is_admitted w.past (at + 1) ≡ true = grind (arith, nat_tests) in
+    record {
+      there = ap (is_admitted w.past) (fits.ids at below) ∙ there;
+      unread = off;
+      read = read;
+    }
 
 -- ---- nothing flows
 
-module _ (s : Session) (ended : has_ended s.limits s.link.id s.past ≡ true)
+module _ (s : Session) (unread : reads_on s.limits s.past s.link.id ≡ false)
     (read : s.link.down ≡ spent) (lines : List Line) where
   serve_idle : Ends (serve_all s) lines s lines
   unfolding serve_all
-  serve_idle = grind (arith, unread, append-nil)
+  serve_idle = grind (arith, append-nil)
 
   send_idle : Ends (send_all s) lines s lines
   send_idle = grind (arith, append-nil)
@@ -86,7 +93,7 @@ over_idle name w at lines found is =
     subst (λ p. Ends (over_named p (move_of e) w) lines w lines) (sym found)
     (subst (λ x. Ends (over at (move_of e) w) lines x lines) same
     (gives_within (with_session at w) (move_of e (session_at at w)) lines r (session_at at w) lines
-    (flow_idle (session_at at w) is.ended is.read lines)))
+    (flow_idle (session_at at w) is.unread is.read lines)))
 
 -- ---- what is over stays so
 
@@ -108,16 +115,20 @@ pub over_both : (w u v : LinksState) → length u.links ≡ length w.links → S
 over_both w u v size a b = grind arith
 
 -- a link that stays the connection's, with its way down
-over_by : (w : LinksState) (at : ℕ) (past : List Entry) (links : List Link) (entries : List Entry)
+pub over_by : (w : LinksState) (at : ℕ) (past : List Entry) (links : List Link)
+    (entries : List Entry)
     → past ≡ entries ++ w.past → (at_place links at).id ≡ (at_place w.links at).id
     → (at_place links at).down ≡ spent → IsOver w at
     → IsOver (record { limits = w.limits; now = w.now; past = past; links = links }) at
-over_by w at past links entries grows id down is = record {
-  ended = ap (λ c. has_ended w.limits c past) id
-      ∙ ap (has_ended w.limits (at_place w.links at).id) grows
-      ∙ ended_on w.limits (at_place w.links at).id entries w.past is.ended;
-  read = down;
-}
+over_by w at past links entries grows id down is =
+    let c = (at_place w.links at).id in
+    record {
+      there = ap (is_admitted past) id ∙ ap (λ p. is_admitted p c) grows
+          ∙ there_on w.limits c entries w.past is.there;
+      unread = ap (reads_on w.limits past) id ∙ ap (λ p. reads_on w.limits p c) grows
+          ∙ unread_on w.limits c entries w.past is.there is.unread;
+      read = down;
+    }
 
 -- a move over the link at this place
 pub over_moved : (w : LinksState) (at : ℕ) (t : Session) (ls : List Line)
@@ -125,18 +136,43 @@ pub over_moved : (w : LinksState) (at : ℕ) (t : Session) (ls : List Line)
 over_moved w at t ls c =
     grind (arith, get_or-set_same, get_or-set_other, eqb-true, eq-eqb, over_below, over_by)
 
+-- a link is made
+made_over : (w : LinksState) (link : Link) (id : ℕ) → StayOver w (record {
+  limits = w.limits;
+  now = w.now;
+  past = entry.Admit id ∷ w.past;
+  links = w.links ++ link ∷ [];
+})
+made_over w link id =
+    let links = w.links ++ link ∷ [] in
+    let there : (at : ℕ) → at < length w.links → at_place links at ≡ at_place w.links at =
+    λ at lt. grind (arith, get_or_append_left) in
+    record {
+      over = λ at is.
+          let same = there at (over_below w at is) in
+          over_by w at (entry.Admit id ∷ w.past) links (entry.Admit id ∷ []) refl
+          (ap (λ (x : Link). x.id) same) (ap (λ (x : Link). x.down) same ∙ is.read) is;
+      named = λ at lt. ap (λ (x : Link). x.name) (there at lt);
+    }
+
+abbrev MadeOver : Option ℕ → LinksState → LinksState → List Line → Type 0
+MadeOver p w v ls = StayOver w v × (p ≡ None)
+
+raw_over_by : (name : List ℕ) (p : Option ℕ) (w : LinksState)
+    → Meets (MadeOver p w) (λ v ls. StayOver w v) (raw_step w name p)
+raw_over_by name (Some at) w =
+    meets_refuses (MadeOver (Some at) w) (λ v ls. StayOver w v) w NameTaken (over_same w)
+raw_over_by name None w =
+    let W : LinksState → List Line → Type 0 = λ v ls. StayOver w v in
+    let id = admitted w.past + 1 in
+    let made = made_over w (fresh_link id name) id in
+    subst (λ (t : Turn). Meets (MadeOver None w) W (admitting w name t))
+    (sym (admit_step w.limits w.past))
+    (meets_once (MadeOver None w) W w _ _ None (λ e. (made, refl)) (over_same w) made)
+
 -- and where it was made, its name was free
 pub raw_over : (name : List ℕ) (w : LinksState)
     → Meets (λ v ls. StayOver w v × (place_of name w ≡ None)) (λ v ls. StayOver w v)
     (step w (Raw name))
 unfolding step
-raw_over name w =
-    grind (
-      arith,
-      meets_once,
-      admit_step,
-      ended_admit,
-      get_or_append_left,
-      over_below,
-      over_by,
-    )
+raw_over name w = raw_over_by name (place_of name w) w

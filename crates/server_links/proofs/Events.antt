@@ -10,7 +10,7 @@ use Rattle.std.proofs.lemmas.List.{get_or-set_other}
 use Rattle.serial_model.specs.declared.history.Limits.{Limits}
 use Rattle.serial_model.specs.declared.history.Entry.{Entry}
 use Rattle.serial_model.specs.declared.history.Entry.TheVariants as entry
-use Rattle.serial_model.specs.History.{admitted}
+use Rattle.serial_model.specs.History.{admitted, runs_of, IsLegal}
 use Rattle.serial_model.specs.Steps.{Turn}
 use Rattle.serial_model.proofs.Turning.{admit_step}
 use Rattle.server_links.specs.LinkEvent.{LinkEvent, Raw, Put, Over, Now, Tick}
@@ -36,7 +36,8 @@ use Rattle.server_links.proofs.Timing.{keeps_time}
 use Rattle.server_links.proofs.Moments.{still_stands, tick_goes_on, tick_stands}
 use Rattle.resp_value.specs.Lists.{IsPrefix}
 use Rattle.server_links.proofs.Moving.{Every, every_move}
-use Rattle.server_links.proofs.Accounts.{gave, Account, Part}
+use Rattle.server_links.proofs.Accounts.{gave, Account, Part, ran_front}
+use Rattle.server_links.proofs.Endings.{quit_is_last}
 use Rattle.server_links.proofs.AccountRuns.{reads_of}
 use Rattle.server_links.proofs.AccountMoves.{piece_of, bytes_said, move_keeps, piece_over}
 use Rattle.server_links.proofs.LinksStand.{Stands, PartStands, stands_part, stands_same, parts_same}
@@ -281,16 +282,21 @@ stands_after l (d ∷ more) before said lines v w s e =
           grind (arith, append_assoc, stands_same)
     ] refl e
 
-pub serves : (heard said read : List ℕ) (s : Session) → Account heard said read s
-    → Serves s.limits heard said read s.past s.link
+all_ran : (runs passed all : List (List (List ℕ))) → (runs ++ passed) ++ [] ≡ all → passed ≡ []
+    → runs ≡ all
+all_ran runs passed all e none = grind (arith, append-nil)
+
+pub serves : (heard said read : List ℕ) (s : Session) → IsLegal s.limits s.past
+    → Account heard said read s → Serves s.limits heard said read s.past s.link
 unfolding gave
-serves heard said read s a = record {
+serves heard said read s legal a = record {
   up = record { lost = a.bytes.up_lost; all_said = a.bytes.all_said };
   up_lost = a.bytes.none_up;
   down = record { lost = a.bytes.down_lost; all_taken = a.bytes.all_taken };
   down_lost = a.bytes.none_down;
-  runs_front = ([], append-nil _ ∙ a.runs);
-  runs_all = λ e. a.runs;
+  runs_front = ran_front [] heard s.limits s.link.id s.past a.runs;
+  runs_all = λ e. all_ran (runs_of s.link.id s.past) a.runs.passed _ a.runs.all (a.runs.none e);
+  quit_last = quit_is_last s.limits s.link.id s.past legal;
 }
 
 pub are_unique : (l : Limits) (events : List LinkEvent) (w : LinksState)
@@ -307,7 +313,7 @@ whole_history l events w e =
       history = s.history;
       serves = λ at lt. serves (heard (start l) at events)
           (said_to (at_place w.links at).name events) (read_on (at_place w.links at).name lines)
-          (session_at at w) (s.accounts at lt);
+          (session_at at w) s.history.legal (s.accounts at lt);
       unread = λ name none. s.unread name (unplaced name w none);
       clock = keeps_time events (start l) w tt e;
     }

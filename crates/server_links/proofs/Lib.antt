@@ -1,5 +1,6 @@
 pub mod Outcomes
 pub mod Clock
+pub mod Endings
 pub mod Carries
 pub mod Moments
 pub mod Moving

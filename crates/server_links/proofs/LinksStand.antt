@@ -3,18 +3,18 @@
 use Rattle.std.proofs.Common.{◌≡◌, ◌+◌, ◌<◌, ◌≤◌, ℕ, List, [], ◌∷◌, ◌++◌, true, false, cond, None}
 use Rattle.std.proofs.Common.{length, filter, refl, sym, ap, subst, ◌∙◌, arith}
 use Rattle.std.proofs.Common.{append-nil, length-append, length-set, eq-eqb, ne_eqb}
-use Rattle.std.specs.Prelude.{◌==◌}
+use Rattle.std.specs.Prelude.{◌==◌, ◌&&◌}
 use Rattle.std.specs.Str.{bytes_eq}
-use Rattle.std.proofs.lemmas.Bool.{both_ways, cases_lt, true_from_ne_false}
+use Rattle.std.proofs.lemmas.Bool.{cases_lt}
 use Rattle.std.proofs.lemmas.Slice.Eq.{bytes_eq-Decides}
 use Rattle.std.proofs.lemmas.List.{get_or-set_same, get_or-set_other, get_or_push}
 use Rattle.std.proofs.lemmas.List.{get_or_append_left, take-append-le}
 use Rattle.std.proofs.lemmas.Bool.Decides.{nat_tests}
 use Rattle.serial_model.specs.declared.history.Limits.{Limits}
 use Rattle.serial_model.specs.declared.history.Entry.{Entry}
-use Rattle.serial_model.specs.History.{admitted, is_admitted, reads_on, IsLegal}
+use Rattle.serial_model.specs.State.{keeps_bytes}
+use Rattle.serial_model.specs.History.{admitted, is_admitted, reads_on, runs_of, state, IsLegal}
 use Rattle.serial_model.specs.Laws.{Extends}
-use Rattle.serial_model.proofs.Standings.{ended_admit, reads_live, reads_over, reads_same}
 use Rattle.serial_model.proofs.Streams.{taken_le, connected, stream_admit, stream_fresh, runs_fresh}
 use Rattle.script_text.specs.declared.line.Line.{Line}
 use Rattle.script_text.specs.declared.line.Line.TheVariants as line
@@ -32,8 +32,10 @@ use Rattle.server_links.proofs.Names.{unplaced}
 use Rattle.server_links.proofs.NameLists.{names_at, names_more, names_set, names_size}
 use Rattle.server_links.proofs.Outcomes.{Meets, meets_within}
 use Rattle.server_links.proofs.Carries.{Carries, read_more, entries_more}
+use Rattle.server_links.proofs.Endings.{reads_before}
 use Rattle.server_links.proofs.Moving.{Every}
-use Rattle.server_links.proofs.Accounts.{gave, Account, Part, account_part, Keeps}
+use Rattle.server_links.proofs.Accounts.{gave, Account, InFlight, Part, Ran, account_part}
+use Rattle.server_links.proofs.Accounts.{ran_grown, Keeps}
 
 pub record Stands (l : Limits) (heard : ℕ → List ℕ) (said : List ℕ
     → List ℕ) (lines : List Line) (w : LinksState) : Type 0 where
@@ -87,21 +89,24 @@ gave_other : (l : Limits) (c : ℕ) (past new : List Entry) → Extends l c past
 unfolding gave
 gave_other l c past new e = grind (arith, take-append-le, taken_le)
 
--- one that is read on was so before
-read_before : (l : Limits) (c : ℕ) (past new : List Entry) → is_admitted past c ≡ true
-    → Extends l c past new → reads_on l new c ≡ true → reads_on l past c ≡ true
-read_before l c past new on e read =
-    true_from_ne_false _ (λ off. both_ways _ (reads_live l new c read)
-    (e.stays_ended (reads_over l past c on off)))
+other_flight : (heard said read : List ℕ) (s : Session) (past : List Entry)
+    → gave s.limits s.link.id past ≡ gave s.limits s.link.id s.past
+    → InFlight heard said read s → InFlight heard said read (with_past s past)
+other_flight heard said read s past same f = grind arith
 
-pub other_account : (heard said read : List ℕ) (s : Session) (past : List Entry)
-    → is_admitted s.past s.link.id ≡ true → Extends s.limits s.link.id s.past past
+pub other_account : (heard said read : List ℕ) (s : Session) (entries past : List Entry)
+    → past ≡ entries ++ s.past → is_admitted s.past s.link.id ≡ true
+    → Extends s.limits s.link.id s.past past
     → Account heard said read s → Account heard said read (with_past s past)
-other_account heard said read s past on e a = record {
-  bytes = grind (arith, gave_other);
-  runs = e.runs_are ∙ a.runs;
-  reading = λ read. a.reading (read_before s.limits s.link.id s.past past on e read);
-}
+other_account heard said read s entries past grows on e a =
+    let l = s.limits in
+    let c = s.link.id in
+    record {
+      bytes = other_flight heard said read s past (gave_other l c s.past past e) a.bytes;
+      runs = ran_grown [] heard l c entries s.past past grows e.runs_are a.runs;
+      reading = λ read. a.reading (reads_before l c entries s.past on
+          (sym (ap (λ p. reads_on l p c) grows) ∙ read));
+    }
 
 pub not_equal : (a b : List ℕ) → (a ≡ b → ⊥) → bytes_eq a b ≡ false
 not_equal a b n = grind (arith, bytes_eq-Decides)
@@ -170,7 +175,7 @@ module _ (l : Limits) (heard : ℕ → List ℕ) (said : List ℕ
         λ e. n (s.unique i at lt below e) in
         let ids : ((at_place w.links at).id == link.id) ≡ false = grind (arith, ne_eqb) in
         let a = other_account (heard i) (said link.name) (read_on link.name lines) (session_at i w)
-        t.past (grind arith) (c.others link.id ids) (s.accounts i lt) in
+        c.entries t.past c.grows (grind arith) (c.others link.id ids) (s.accounts i lt) in
         subst (λ (x : Link). Account (heard i ++ cond (at == i) piece []) (said x.name
         ++ cond (bytes_eq (at_place w.links at).name x.name) bytes [])
         (read_on x.name (lines ++ ls))
@@ -280,7 +285,13 @@ fresh_account : (c : ℕ) (name : List ℕ) (l : Limits) (now : ℕ) (past : Lis
     (record { limits = l; now = now; past = entry.Admit c ∷ past; link = fresh_link c name })
 unfolding gave
 fresh_account c name l now past legal above =
-    grind (arith, runs_fresh, stream_admit, stream_fresh, take-nil, no_requests, requests_begun)
+    let runs : Ran [] [] l c (entry.Admit c ∷ past) = record {
+      passed = [];
+      all = append-nil (runs_of c past ++ []) ∙ append-nil (runs_of c past)
+          ∙ runs_fresh l past c legal above ∙ sym no_requests;
+      none = λ h. refl;
+    } in
+    grind (arith, stream_admit, stream_fresh, take-nil, requests_begun)
 
 -- names of links that a longer list of names has too
 name_front : (ns : List (List ℕ)) (name : List ℕ) (id : ℕ) → 0 < id → id ≤ length ns
@@ -301,12 +312,22 @@ names_front l ns name (entry.Take id max ∷ past) legal le =
 names_front l ns name (entry.Close id ∷ past) legal le =
     grind (arith, connected, name_front, names_front l ns name past legal.1 le)
 
+gave_admit : (l : Limits) (c : ℕ) (past : List Entry) (id : ℕ)
+    → gave l c (entry.Admit id ∷ past) ≡ gave l c past
+unfolding gave
+gave_admit l c past id = grind (arith, stream_admit)
+
 -- one more connection leaves the others' accounts
 admitted_account : (heard said read : List ℕ) (s : Session) (id : ℕ)
     → reads_on s.limits (entry.Admit id ∷ s.past) s.link.id ≡ reads_on s.limits s.past s.link.id
     → Account heard said read s → Account heard said read (with_past s (entry.Admit id ∷ s.past))
-unfolding gave
-admitted_account heard said read s id still a = grind (arith, stream_admit)
+admitted_account heard said read s id still a = record {
+  bytes = other_flight heard said read s (entry.Admit id ∷ s.past)
+      (gave_admit s.limits s.link.id s.past id) a.bytes;
+  runs = ran_grown [] heard s.limits s.link.id (entry.Admit id ∷ []) s.past
+      (entry.Admit id ∷ s.past) refl refl a.runs;
+  reading = λ on. a.reading (sym still ∙ on);
+}
 
 module _ (l : Limits) (heard : ℕ → List ℕ) (said : List ℕ
     → List ℕ) (lines : List Line) (w : LinksState) (s : Stands l heard said lines w) (name : List ℕ)
@@ -345,9 +366,12 @@ module _ (l : Limits) (heard : ℕ → List ℕ) (said : List ℕ
   still_there : (c : ℕ) → 0 < c → c ≤ admitted w.past
       → reads_on w.limits (entry.Admit (admitted w.past + 1) ∷ w.past) c
       ≡ reads_on w.limits w.past c
+  unfolding state
   still_there c more le =
-      reads_same w.limits w.past c (entry.Admit (admitted w.past + 1)) (grind (arith, nat_tests))
-      (ended_admit w.limits w.past c (admitted w.past + 1))
+      ap (λ b. b && keeps_bytes ((state w.limits w.past).standing c))
+      (let there : is_admitted (entry.Admit (admitted w.past + 1) ∷ w.past) c
+      ≡ is_admitted w.past c = grind (arith, nat_tests) in
+      there)
 
   old_account : (i : ℕ) → i < length w.links → Account (heard i
       ++ []) (said (at_place made.links i).name

@@ -69,7 +69,7 @@ module _ (l : Limits) (heard : ℕ → List ℕ) (said : List ℕ
         (sym (append-nil (said x.name)))
         (subst (λ r. Account (heard i) (said x.name) r t) (sym (same_lines x.name))
         (other_account (heard i) (said x.name) (read_on x.name lines) (session_at i w)
-        (entry.Tick moment ∷ w.past) (grind arith)
+        (entry.Tick moment ∷ []) (entry.Tick moment ∷ w.past) refl (grind arith)
         (extends x.id) (s.accounts i lt))))
 
     pub ticked_stands : Stands l (λ i. heard i ++ []) (λ n. said n ++ []) (lines ++ tick_line)

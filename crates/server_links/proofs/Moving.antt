@@ -2,11 +2,11 @@
 use Rattle.std.proofs.Common.{◌≡◌, ℕ, List, [], ◌∷◌, ◌++◌, Bool, true, false, cond, Some, None}
 use Rattle.std.proofs.Common.{Option, refl, ap, ◌∙◌, arith}
 use Rattle.std.proofs.Math.Seq.{drop-nil}
-use Rattle.std.specs.Prelude.{◌&&◌, nat_le, length, take, filter}
+use Rattle.std.specs.Prelude.{◌&&◌, ◌==◌, nat_le, length, take, filter}
 use Rattle.resp_stream.specs.declared.fault.FaultPlace.{FaultPlace}
 use Rattle.resp_stream.specs.Stream.{Stream}
 use Rattle.resp_stream.specs.Parse.{parse}
-use Rattle.serial_model.specs.History.{reads_on, gives_on, unsent}
+use Rattle.serial_model.specs.History.{has_ended, reads_on, gives_on, unsent}
 use Rattle.serial_model.specs.Steps.{Turn}
 use Rattle.server_links.specs.LinkEvent.{LinkEvent, Put, Over}
 use Rattle.server_links.specs.declared.link.LinkMove.{LinkMove}
@@ -24,7 +24,7 @@ use Rattle.server_links.specs.Session.{with_reader}
 use Rattle.server_links.specs.Moves.{turned, turn, say, next_read, run_one, run_all, close, stop}
 use Rattle.server_links.specs.Moves.{run_requests, run_fed, stopped_at, feed, serve_all, serve}
 use Rattle.server_links.specs.Moves.{take_down, all_bytes, send_all, send, eof_lines, read_bytes}
-use Rattle.server_links.specs.Moves.{read_eof, receive_all, receive, flow, move_of, moved}
+use Rattle.server_links.specs.Moves.{read_eof, receive_all, receive, flow, move_of, moved, end_down}
 use Rattle.server_links.proofs.Outcomes.{Meets, meets_stays, meets_once, meets_refuses, meets_then}
 use Rattle.server_links.proofs.Outcomes.{meets_weaker, Fronts, fronts_stays, fronts_refuses}
 use Rattle.server_links.proofs.Outcomes.{fronts_once, fronts_then}
@@ -128,22 +128,38 @@ every_serve (Some n) s =
       | false ↦ grind (arith, meets_refuses, carries_none, fronts_refuses)
     ]
 
-every_take : (most : ℕ) (s : Session) → Every s (take_down most s)
+pub every_take : (most : ℕ) (s : Session) → Every s (take_down most s)
 unfolding take_down
 every_take most s =
     every_then s _ _ (every_turned s [] _ (take_carries s most))
     (λ t. every_quiet t t.link.up _ t.link.reader (ap (put _)))
 
+every_finished : (s : Session)
+    → Every s (stays (with_link s (with_down s.link (finished s.link.down))))
+every_finished s = grind (arith, meets_stays, fronts_stays, carries_link)
+
+every_end : (s : Session) → Every s (end_down s)
+every_end s =
+    elim (has_ended s.limits s.link.id s.past
+    && (length (unsent s.limits s.link.id s.past) == 0)) as (λ b. Every s
+    (stays (cond b (with_link s (with_down s.link (finished s.link.down))) s))) [
+      | true ↦ every_finished s
+      | false ↦ every_none s
+    ]
+
+every_take_end : (most : ℕ) (s : Session) → Every s (and_then (take_down most s) end_down)
+every_take_end most s = every_then s (take_down most s) end_down (every_take most s) every_end
+
 pub every_send_all : (s : Session) → Every s (send_all s)
 every_send_all s =
     elim (is_open s.link.down.eof) as (λ b. Every s
-    (cond b (cond (gives_on s.limits s.past s.link.id) (take_down all_bytes s)
+    (cond b (cond (gives_on s.limits s.past s.link.id) (and_then (take_down all_bytes s) end_down)
     (stays (with_link s (with_down s.link (finished s.link.down))))) (stays s))) [
       | true ↦ elim (gives_on s.limits s.past s.link.id) as (λ b. Every s
-          (cond b (take_down all_bytes s)
+          (cond b (and_then (take_down all_bytes s) end_down)
           (stays (with_link s (with_down s.link (finished s.link.down)))))) [
-            | true ↦ every_take all_bytes s
-            | false ↦ grind (arith, meets_stays, fronts_stays, carries_link)
+            | true ↦ every_take_end all_bytes s
+            | false ↦ every_finished s
           ]
       | false ↦ every_none s
     ]
@@ -153,8 +169,8 @@ every_send None s = every_send_all s
 every_send (Some n) s =
     elim (is_open s.link.down.eof && gives_on s.limits s.past s.link.id && nat_le n
     (length (unsent s.limits s.link.id s.past))) as (λ b. Every s
-    (cond b (take_down n s) (refuses s NothingThere))) [
-      | true ↦ every_take n s
+    (cond b (and_then (take_down n s) end_down) (refuses s NothingThere))) [
+      | true ↦ every_take_end n s
       | false ↦ grind (arith, meets_refuses, carries_none, fronts_refuses)
     ]
 

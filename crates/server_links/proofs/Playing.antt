@@ -1,8 +1,8 @@
 -- What the calls of the code give, as outcomes.
 use Rattle.std.proofs.Common.{◌≡◌, ◌+◌, ◌<◌, ℕ, List, [], ◌∷◌, ◌++◌, Bool, true, false, Some}
 use Rattle.std.proofs.Common.{Option, Result, Ok, Err, length, take, min, refl, sym, ap, subst, ◌∙◌}
-use Rattle.std.proofs.Common.{arith, inl, append-nil, length-take}
-use Rattle.std.specs.Prelude.{nat_le}
+use Rattle.std.proofs.Common.{arith, cond, inl, append-nil, length-take}
+use Rattle.std.specs.Prelude.{◌&&◌, nat_le}
 use Rattle.serial_model.specs.declared.history.Limits.{Limits}
 use Rattle.serial_model.specs.declared.history.Entry.{Entry}
 use Rattle.serial_model.specs.declared.history.BookCall.{BookCall}
@@ -11,24 +11,26 @@ use Rattle.serial_model.specs.declared.history.BookReply.{BookReply}
 use Rattle.serial_model.specs.declared.history.BookReply.TheVariants.{Quiet, Bytes}
 use Rattle.serial_model.specs.History.{runs_on, reads_on, gives_on, unsent}
 use Rattle.serial_model.specs.Steps.{Turn, book_step, taking}
-use Rattle.serial_model.proofs.Streams.{reads_is_runs}
 use Rattle.serial_model.proofs.Turning.{run_step, close_step}
 use Rattle.script_text.specs.declared.line.Line.{Line}
 use Rattle.script_text.specs.declared.line.Line.TheVariants as line
 use Rattle.server_links.specs.declared.fault.WorldFault.{WorldFault}
-use Rattle.server_links.specs.declared.fault.WorldFault.TheVariants.{NoMemory}
+use Rattle.server_links.specs.declared.fault.WorldFault.TheVariants.{NoMemory, NothingThere}
 use Rattle.server_links.specs.declared.link.Link.{Link}
 use Rattle.server_links.specs.ServerState.{ServerState}
 use Rattle.server_links.specs.EntryLines.{reply_lines}
 use Rattle.server_links.specs.declared.direction.Direction.{Direction}
-use Rattle.server_links.specs.Directions.{put, is_queued, without, without_bytes, past_eof}
+use Rattle.server_links.specs.Directions.{finished, put, is_open, is_queued, without}
+use Rattle.server_links.specs.Directions.{without_bytes, past_eof}
 use Rattle.server_links.specs.Moves.{turned, turn, bytes_of, take_down, read_lines, eof_lines}
 use Rattle.server_links.specs.Moves.{read_bytes, read_eof, receive_all, stop, close, feed, run_fed}
-use Rattle.server_links.specs.Moves.{serve, serve_all}
+use Rattle.server_links.specs.Moves.{serve, serve_all, all_bytes, end_down, send, send_all}
+use Rattle.server_links.specs.Moves.{with_end}
 use Rattle.resp_stream.specs.declared.fault.FaultPlace.{FaultPlace}
 use Rattle.server_links.proofs.Outcomes.{Ends, after_ends, after_stops, gives_then, stops_first}
 use Rattle.server_links.proofs.Outcomes.{stops_here}
-use Rattle.server_links.specs.Outcome.{Outcome, Stops, Gives, and_then, does, stays}
+use Rattle.server_links.proofs.Endings.{takes_same}
+use Rattle.server_links.specs.Outcome.{Outcome, Stops, Gives, and_then, does, refuses, stays}
 use Rattle.server_links.specs.Session.{Session, session, with_past, with_link, with_down}
 use Rattle.server_links.specs.Turns.{TurnGives}
 
@@ -57,13 +59,18 @@ pub turn_before : (s : Session) (c : BookCall) (words : List (List ℕ)) (lines 
 unfolding turn
 turn_before s c words lines = ([], inl (refl, refl), sym (append-nil lines))
 
+-- behind a QUIT a request is passed over
+pub run_passed : (s : Session) (words : List (List ℕ)) (lines : List Line)
+    → runs_on s.limits s.past s.link.id ≡ false
+    → Ends (turn (call.Run s.link.id words s.now) words s) lines s lines
+unfolding turn book_step
+run_passed s words lines off = grind (arith, append-nil)
+
 module _ (l : Limits) (past new : List Entry) (id : ℕ) (reply : BookReply) where
-  pub run_line : (now : ℕ) (words : List (List ℕ)) (name : List ℕ) → reads_on l past id ≡ true
+  pub run_line : (now : ℕ) (words : List (List ℕ)) (name : List ℕ) → runs_on l past id ≡ true
       → book_step l past (call.Run id words now) ≡ record { reply = reply; past = new }
       → reply_lines name words reply ≡ line.Run (length past + 1) name words ∷ []
-  run_line now words name on is =
-      let runs : runs_on l past id ≡ true = sym (reads_is_runs l past id) ∙ on in
-      grind (arith, run_step)
+  run_line now words name on is = grind (arith, run_step)
 
   pub close_line : (name : List ℕ) → reads_on l past id ≡ true
       → book_step l past (call.Close id) ≡ record { reply = reply; past = new }
@@ -147,6 +154,44 @@ module _ (most : ℕ) (s : Session) (lines : List Line) where
                 ∙ ap (λ b. put b s.link.down) (sym given)),
             sym (append-nil lines'),
           )
+
+-- and then the EOF follows, where the connection has ended
+pub end_gives : (most : ℕ) (s t u : Session) (lines lines' : List Line)
+    → Ends (take_down most s) lines t lines' → u ≡ with_end t
+    → Ends (and_then (take_down most s) end_down) lines u lines'
+end_gives most s t u lines lines' took is =
+    after_ends (take_down most s) end_down lines t lines' u lines' took
+    (refl, is, sym (append-nil lines'))
+
+-- a Take leaves that more can be taken
+pub take_goes_on : (most : ℕ) (s t : Session) → t ≡ (take_down most s).state
+    → gives_on s.limits s.past s.link.id ≡ true → gives_on t.limits t.past t.link.id ≡ true
+unfolding take_down and_then
+take_goes_on most s t is on =
+    ap (λ (x : Session). gives_on x.limits x.past x.link.id) is
+    ∙ (takes_same s.limits s.link.id s.past s.link.id most).1 ∙ on
+
+pub send_on : (s : Session) → is_open s.link.down.eof ≡ true
+    → gives_on s.limits s.past s.link.id ≡ true
+    → send_all s ≡ and_then (take_down all_bytes s) end_down
+send_on s opened on =
+    let sent = and_then (take_down all_bytes s) end_down in
+    let ended : Outcome Session = stays (with_link s (with_down s.link (finished s.link.down))) in
+    ap (λ o. cond o (cond (gives_on s.limits s.past s.link.id) sent ended) (stays s)) opened
+    ∙ ap (λ b. cond b sent ended) on
+
+pub send_some : (count : Option ℕ) (n : ℕ) (s : Session) → count ≡ Some n
+    → is_open s.link.down.eof ≡ true → gives_on s.limits s.past s.link.id ≡ true
+    → nat_le n (length (unsent s.limits s.link.id s.past)) ≡ true
+    → send count s ≡ and_then (take_down n s) end_down
+send_some count n s is opened on le =
+    let sent = and_then (take_down n s) end_down in
+    let none : Outcome Session = refuses s NothingThere in
+    ap (λ o. send o s) is
+    ∙ ap (λ o. cond (o && gives_on s.limits s.past s.link.id
+    && nat_le n (length (unsent s.limits s.link.id s.past))) sent none) opened
+    ∙ ap (λ o. cond (o && nat_le n (length (unsent s.limits s.link.id s.past))) sent none) on
+    ∙ ap (λ o. cond o sent none) le
 
 pub take_size : (bytes : List ℕ) (most waiting count : ℕ) → waiting ≡ length bytes
     → count ≡ min waiting most → length (take most bytes) ≡ count

@@ -15,7 +15,7 @@ use Rattle.server_links.specs.Directions.{is_open}
 use Rattle.server_links.specs.Faults.{IsRefusal}
 use Rattle.server_links.specs.Moves.{turn, run_one, run_all, close, stop, run_requests, run_fed}
 use Rattle.server_links.specs.Moves.{stopped_at, serve_all, take_down, send_all, receive_all, flow}
-use Rattle.server_links.specs.Moves.{move_of, moved}
+use Rattle.server_links.specs.Moves.{move_of, moved, end_down}
 use Rattle.server_links.specs.Outcome.{Outcome, stays, refuses, and_then, within}
 use Rattle.server_links.specs.Session.{Session}
 use Rattle.server_links.specs.LinkSteps.{over, over_named, place_of, raw_step, step, tick}
@@ -61,9 +61,13 @@ un_take : (most : ℕ) (s : Session) → Unrefused (take_down most s)
 unfolding take_down Unrefused
 un_take most s = un_then _ _ none (λ t. none)
 
+un_take_end : (most : ℕ) (s : Session) → Unrefused (and_then (take_down most s) end_down)
+unfolding Unrefused
+un_take_end most s = un_then (take_down most s) end_down (un_take most s) (λ t. none)
+
 pub un_send_all : (s : Session) → Unrefused (send_all s)
 unfolding Unrefused
-un_send_all s f = grind (arith, un_take, none)
+un_send_all s f = grind (arith, un_take_end, none)
 
 pub un_receive_all : (s : Session) → Unrefused (receive_all s)
 unfolding receive_all Unrefused
@@ -105,7 +109,7 @@ unchanged_moved (moves.Serve (Some n)) s =
 unchanged_moved (moves.Send None) s = accepted s _ (un_send_all s)
 unchanged_moved (moves.Send (Some n)) s =
     either (is_open s.link.down.eof && gives_on s.limits s.past s.link.id && nat_le n
-    (length (unsent s.limits s.link.id s.past))) s _ (un_take n s)
+    (length (unsent s.limits s.link.id s.past))) s _ (un_take_end n s)
 unchanged_moved (moves.Recv None) s = accepted s _ (un_receive_all s)
 unchanged_moved (moves.Recv (Some n)) s = either (nat_le n (length s.link.down.bytes)) s _ none
 unchanged_moved moves.Flow s = accepted s _ (un_flow s)

@@ -1,5 +1,5 @@
 -- Requests that are read and run one after another.
-use Rattle.std.proofs.Common.{◌≡◌, ◌<◌, ℕ, List, true, length, max, refl, ap, ◌∙◌, arith}
+use Rattle.std.proofs.Common.{◌≡◌, ◌<◌, ℕ, List, true, length, ap, ◌∙◌, arith}
 use Rattle.resp_stream.specs.Parsed.{Whole}
 use Rattle.resp_stream.specs.Parse.{parse}
 use Rattle.resp_stream.specs.Readers.{skipped}
@@ -7,14 +7,11 @@ use Rattle.resp_stream.specs.Request.{request_at, skip_empty}
 use Rattle.resp_stream.specs.Stream.{Stream, moved_on}
 use Rattle.resp_stream.proofs.Parse.{parse_whole, parse_more, parse_bad, shorter}
 use Rattle.serial_model.specs.declared.history.BookCall.TheVariants as call
-use Rattle.serial_model.specs.declared.history.Entry.TheVariants as entry
-use Rattle.serial_model.specs.History.{latest, reads_on}
-use Rattle.serial_model.proofs.Standings.{ended_run, reads_same}
-use Rattle.serial_model.specs.Steps.{Turn, book_step}
+use Rattle.serial_model.specs.History.{reads_on}
 use Rattle.script_text.specs.declared.line.Line.{Line}
 use Rattle.server_links.specs.Moves.{next_read, turn, run_one, run_all}
 use Rattle.server_links.specs.Session.{Session, with_link, with_reader}
-use Rattle.server_links.proofs.Carries.{by_run}
+use Rattle.server_links.proofs.Endings.{read_then}
 use Rattle.server_links.proofs.Items as items
 use Rattle.server_links.proofs.Items.{Runner, Runs}
 use Rattle.server_links.proofs.Outcomes.{Ends}
@@ -36,16 +33,6 @@ pub requests_run : Runs requests
 unfolding run_one run_all
 requests_run = grind (arith, parse_whole, parse_more, parse_bad)
 
-run_on : (s : Session) (words : List (List ℕ)) → reads_on s.limits s.past s.link.id ≡ true
-    → reads_on s.limits (book_step s.limits s.past (call.Run s.link.id words s.now)).past s.link.id
-    ≡ true
-run_on s words on =
-    let e = entry.Run s.link.id words (max s.now (latest s.past)) in
-    by_run s.limits s.past s.link.id s.now words (λ (t : Turn). reads_on s.limits t.past s.link.id
-    ≡ true) on
-    (reads_same s.limits s.past s.link.id e refl
-    (ended_run s.limits s.past s.link.id s.link.id (max s.now (latest s.past)) words) ∙ on)
-
 -- what was read and run so far, while the connection is read
 pub record Reads (s0 s : Session) (lines0 lines : List Line) : Type 0 where
   pub reads : items.Reads requests s0 s lines0 lines
@@ -66,7 +53,8 @@ unfolding turn
 reads_more s0 s lines0 lines h words new is moved t lines1 same g = record {
   reads = items.reads_more requests requests_run s0 s lines0 lines h.reads words new is moved t
       lines1 same g;
-  on = ap (λ (x : Session). reads_on x.limits x.past x.link.id) g.1 ∙ run_on s words h.on;
+  on = ap (λ (x : Session). reads_on x.limits x.past x.link.id) g.1
+      ∙ read_then s.limits s.link.id s.past words s.now h.on;
 }
 
 pub reads_less : (now new : Stream) (words : List (List ℕ))

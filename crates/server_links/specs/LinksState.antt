@@ -1,9 +1,10 @@
 -- What a server with its links is seen as, and when a link is over.
-use Rattle.std.specs.Prelude.{◌≡◌, ◌+◌, ◌<◌, ℕ, List, [], true, length, map, slice_index_or}
+use Rattle.std.specs.Prelude.{◌≡◌, ◌+◌, ◌<◌, ℕ, List, [], true, false, length, map}
+use Rattle.std.specs.Prelude.{slice_index_or}
 use Rattle.resp_stream.specs.Stream.{begun}
 use Rattle.serial_model.specs.declared.history.Limits.{Limits}
 use Rattle.serial_model.specs.declared.history.Entry.{Entry}
-use Rattle.serial_model.specs.History.{admitted, has_ended}
+use Rattle.serial_model.specs.History.{admitted, is_admitted, reads_on}
 use Rattle.server_links.specs.declared.link.Link.{Link}
 use Rattle.server_links.specs.Directions.{fresh, spent}
 
@@ -42,8 +43,9 @@ pub record AreNames (ns : List (List ℕ)) (links : List Link) : Type 0 where
   pub all : ns ≡ names links
   pub apart : AreApart ns
 
--- The link at this place is over, whatever happens: its connection has ended, and the EOF on the
--- way down was read.
+-- The link at this place is over, whatever happens: its connection was admitted and is read no
+-- more, and the EOF on the way down was read. One that has quit is still read.
 pub record IsOver (w : LinksState) (at : ℕ) : Type 0 where
-  pub ended : has_ended w.limits (at_place w.links at).id w.past ≡ true
+  pub there : is_admitted w.past (at_place w.links at).id ≡ true
+  pub unread : reads_on w.limits w.past (at_place w.links at).id ≡ false
   pub read : (at_place w.links at).down ≡ spent

@@ -1,6 +1,6 @@
 -- What moves over one link.
-use Rattle.std.specs.Prelude.{◌^◌, ◌-◌, ◌&&◌, ℕ, List, [], ◌∷◌, Bool, true, false, if◌then◌else◌}
-use Rattle.std.specs.Prelude.{nat_le, length, take}
+use Rattle.std.specs.Prelude.{◌^◌, ◌-◌, ◌&&◌, ◌==◌, ℕ, List, [], ◌∷◌, Bool, true, false}
+use Rattle.std.specs.Prelude.{if◌then◌else◌, nat_le, length, take}
 use Rattle.std.specs.declared.option.Option.{Option}
 use Rattle.std.specs.declared.option.Option.TheVariants.{None, Some}
 use Rattle.resp_stream.specs.declared.fault.StreamFault.{StreamFault}
@@ -14,7 +14,7 @@ use Rattle.serial_model.specs.declared.history.BookCall.TheVariants as call
 use Rattle.serial_model.specs.declared.history.BookReply.{BookReply}
 use Rattle.serial_model.specs.declared.history.BookReply.TheVariants.{Admitted, Ran, Ticked, Quiet}
 use Rattle.serial_model.specs.declared.history.BookReply.TheVariants.{Bytes, Closed, Refused}
-use Rattle.serial_model.specs.History.{reads_on, gives_on, unsent}
+use Rattle.serial_model.specs.History.{has_ended, reads_on, gives_on, unsent}
 use Rattle.serial_model.specs.Steps.{Turn, book_step}
 use Rattle.server_links.specs.LinkEvent.{LinkEvent, Raw, Put, Over, Now, Tick}
 use Rattle.server_links.specs.declared.link.LinkMove.{LinkMove}
@@ -62,6 +62,7 @@ next_read s =
     with_link s (with_reader s.link (past_request s.link.reader
     (request_at (skip_empty s.link.reader.rest))))
 
+-- behind a QUIT a request is passed over: its Run is refused, prints nothing and adds no entry
 unfoldable pub run_one : List (List ℕ) → Session → Outcome Session
 run_one words s =
     and_then (does s (next_read s) []) (λ s. turn (call.Run s.link.id words s.now) words s)
@@ -77,9 +78,8 @@ abbrev pub stopped_at : Option StreamFault → Option FaultPlace
 stopped_at None = None
 stopped_at (Some fault) = fault_place fault
 
--- a fault of the stream closes the connection, and so does an EOF that was read; what follows a
--- fault
--- is passed over
+-- a fault of the stream closes the connection, and so does an EOF that was read, also after a QUIT;
+-- what follows a fault is passed over
 abbrev pub stop : Option FaultPlace → Bool → Session → Outcome Session
 stop (Some place) eof s =
     and_then (does s s (line.Bad s.link.name place.number place.offset ∷ [])) close
@@ -89,7 +89,7 @@ stop None false s = stays s
 abbrev pub rest_read : Stream → Session → Outcome Session
 rest_read rest s = does s (with_link s (with_reader s.link rest)) []
 
--- each whole request in what was fed is one Run
+-- each whole request in what was fed is one Run, up to a QUIT
 unfoldable pub run_requests : Session → Outcome Session
 run_requests s =
     let p = parse s.link.reader in and_then (run_all p.items s) (rest_read p.stream)
@@ -139,11 +139,23 @@ take_down most s =
 abbrev pub all_bytes : ℕ
 all_bytes = 2 ^ 64 - 1
 
--- A connection that has ended gets its EOF; after an EOF nothing is sent.
+-- once nothing is left of what a connection that has ended was sent, its EOF follows
+abbrev pub with_end : Session → Session
+with_end s =
+    if has_ended s.limits s.link.id s.past
+    && (length (unsent s.limits s.link.id s.past) == 0)
+    then with_link s (with_down s.link (finished s.link.down))
+    else s
+
+abbrev pub end_down : Session → Outcome Session
+end_down s = stays (with_end s)
+
+-- A connection that was closed gets its EOF, and one that quit gets it behind its last bytes; after
+-- an EOF nothing is sent.
 abbrev pub send_all : Session → Outcome Session
 send_all s =
     if is_open s.link.down.eof
-    then (if gives_on s.limits s.past s.link.id then take_down all_bytes s
+    then (if gives_on s.limits s.past s.link.id then and_then (take_down all_bytes s) end_down
     else stays (with_link s (with_down s.link (finished s.link.down))))
     else stays s
 
@@ -152,7 +164,7 @@ send None s = send_all s
 send (Some n) s =
     if is_open s.link.down.eof && gives_on s.limits s.past s.link.id
     && nat_le n (length (unsent s.limits s.link.id s.past))
-    then take_down n s
+    then and_then (take_down n s) end_down
     else refuses s NothingThere
 
 -- ---- the client's end reads

@@ -10,7 +10,10 @@ use Rattle.resp_value.specs.Lists.{IsPrefix}
 use Rattle.resp_stream.specs.Parse.{requests_of}
 use Rattle.serial_model.specs.declared.history.Limits.{Limits}
 use Rattle.serial_model.specs.declared.history.Entry.{Entry}
-use Rattle.serial_model.specs.History.{admitted, reads_on, runs_of, stream, taken, unsent, IsLegal}
+use Rattle.serial_model.specs.declared.standing.Standing.{Standing}
+use Rattle.serial_model.specs.declared.standing.Standing.TheVariants.{Live, Quit, QuitClosed, Gone}
+use Rattle.serial_model.specs.History.{admitted, has_ended, is_quit, reads_on, runs_of, state}
+use Rattle.serial_model.specs.History.{stream, taken, unsent, IsLegal}
 use Rattle.server_links.specs.LinkEvent.{LinkEvent, Raw, Put, Over, Now, Tick}
 use Rattle.server_links.specs.declared.link.LinkMove.TheVariants as moves
 use Rattle.script_text.specs.declared.line.Line.{Line}
@@ -80,11 +83,21 @@ pub record Returns (l : Limits) (read : List ℕ) (past : List Entry) (link : Li
   pub all_taken : (read ++ link.down.bytes) ++ lost
       ≡ take (taken l link.id past) (stream l link.id past)
 
--- Whether a connection ended before all that was heard of it ran: by QUIT, by an output that grew
--- past
--- its limit, or by SHUTDOWN. None of these is served yet.
+abbrev pub has_quit : Standing → Bool
+has_quit Live = false
+has_quit Quit = true
+has_quit QuitClosed = true
+has_quit Gone = false
+
+-- Whether a connection ended before all that was heard of it ran: otherwise than by a Close alone,
+-- so by QUIT. An output that grew past its limit and SHUTDOWN end none yet.
 abbrev pub ended_early : Limits → ℕ → List Entry → Bool
-ended_early l c past = false
+ended_early l c past = has_quit ((state l past).standing c)
+
+-- a QUIT is the last of these requests, if there is one
+abbrev pub QuitIsLast : List (List (List ℕ)) → Type 0
+QuitIsLast [] = Unit {0}
+QuitIsLast (words ∷ requests) = (is_quit words ≡ true → requests ≡ []) × QuitIsLast requests
 
 pub record Serves (l : Limits) (heard said read : List ℕ) (past : List Entry) (link : Link) : Type 0
   where
@@ -92,10 +105,11 @@ pub record Serves (l : Limits) (heard said read : List ℕ) (past : List Entry) 
     pub up_lost : is_open link.up.eof ≡ true → up.lost ≡ []
     pub down : Returns l read past link
     pub down_lost : is_open link.down.eof ≡ true → down.lost ≡ []
-    -- the Runs are the requests in what was heard, up to a fault of the stream, each once and in
-    -- order
+    -- the Runs are the requests in what was heard, up to a fault of the stream or a QUIT, each once
+    -- and in order
     pub runs_front : IsPrefix (runs_of link.id past) (requests_of heard)
     pub runs_all : ended_early l link.id past ≡ false → runs_of link.id past ≡ requests_of heard
+    pub quit_last : QuitIsLast (runs_of link.id past)
 
 -- The same where the last event met a fault or was broken off: what was heard by then is some front
 -- of
@@ -156,13 +170,15 @@ pub record Follows (l : Limits) (events : List LinkEvent) (lines : List Line) (w
   pub grows : new.past ≡ entries ++ w.past
   pub others : (name : List ℕ) → link_named event ≡ Some name → OthersKept w name new
 
--- Nothing is in flight over this link, and nothing is left to send, where a Take can ask for all of
--- it.
+-- Nothing is in flight over this link, and where a Take can ask for all of it nothing is left to
+-- send: the EOF was sent too, if its connection has ended.
 pub record IsDelivered (w : LinksState) (link : Link) : Type 0 where
   pub up : link.up.bytes ≡ []
   pub down : link.down.bytes ≡ []
   pub sent : length (stream w.limits link.id w.past) ≤ all_bytes
       → unsent w.limits link.id w.past ≡ []
+  pub ended : length (stream w.limits link.id w.past) ≤ all_bytes
+      → has_ended w.limits link.id w.past ≡ true → is_open link.down.eof ≡ false
 
 -- A link that is not cut, and whose server reads on, delivers all that was there once it flows
 -- without a fault.

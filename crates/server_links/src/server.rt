@@ -3,7 +3,8 @@ ghost use Rattle.std.specs.Prelude.{◌≡◌, ◌+◌, ◌++◌, ◌∷◌, [],
 ghost use Rattle.std.specs.Prelude.{option_map, ℕ};
 ghost use Rattle.script_text.specs.declared.line.Line.{Line};
 ghost use Rattle.serial_model.specs.declared.history.BookCall.TheVariants as call;
-ghost use Rattle.serial_model.specs.History.{gives_on, reads_on, run_entries, runs_of, unsent};
+ghost use Rattle.serial_model.specs.History.{gives_on, reads_on, run_entries, runs_of, runs_on};
+ghost use Rattle.serial_model.specs.History.{unsent};
 ghost use Rattle.serial_model.specs.Steps.{AreValid, BookStep, IsCallable};
 ghost use Rattle.server_book.specs.BookState.{empty_book};
 ghost use Rattle.server_links.specs.Notes.{IsCopy, noted_turn, runner_of, sent_entries, words_of};
@@ -120,6 +121,13 @@ impl Server {
         ensures { result ≡ length self.now.book.past }
     {
         self.book.entries()
+    }
+
+    /// Whether a Run of this connection is accepted.
+    pub fn runs_on(&self, id: u64) -> bool
+        ensures { result ≡ runs_on self.now.book.limits self.now.book.past id }
+    {
+        self.book.runs_on(id)
     }
 
     /// Whether the server reads on from this connection's link.

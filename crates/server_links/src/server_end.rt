@@ -5,7 +5,7 @@ ghost use Rattle.serial_model.specs.declared.history.BookCall.TheVariants as cal
 ghost use Rattle.serial_model.specs.History.{gives_on, reads_on};
 ghost use Rattle.server_links.specs.Moves.{close, stopped_at, run_fed, run_requests, send};
 ghost use Rattle.server_links.specs.Moves.{send_all};
-ghost use Rattle.server_links.specs.Moves.{serve, serve_all, stop, take_down, turn};
+ghost use Rattle.server_links.specs.Moves.{serve, serve_all, stop, take_down, turn, with_end};
 ghost use Rattle.server_links.specs.Outcome.{Gives};
 ghost use Rattle.server_links.specs.Session.{session};
 
@@ -40,7 +40,7 @@ impl Link {
         self.run_fed(server, false, lines)
     }
 
-    /// The server's end reads all that is there. It reads nothing where its connection has ended.
+    /// The server's end reads all that is there. It reads nothing where its connection was closed.
     pub fn serve_all(&mut self, server: &mut Server, lines: &mut Lines) -> Result<(), WorldFault>
         ensures { Gives (serve_all (session server.old self.old)) lines.old result
             (session server.new self.new) lines.new }
@@ -70,7 +70,7 @@ impl Link {
         self.stop(server, fault, eof, lines)
     }
 
-    /// Each whole request is one Run; the fault that stands after them, if any.
+    /// Each whole request is one Run, up to a QUIT; the fault that stands after them, if any.
     fn run_requests(
         &mut self,
         server: &mut Server,
@@ -97,17 +97,20 @@ impl Link {
         }
     }
 
+    /// One Run. What stands behind a QUIT is passed over.
     fn run_one(
         &self,
         server: &mut Server,
         words: Words,
         lines: &mut Lines,
     ) -> Result<(), WorldFault>
-        requires { reads_on server.old.book.limits server.old.book.past self.now.id ≡ true }
         ensures { Gives (turn (call.Run self.now.id words server.old.clock) words
             (session server.old self.now)) lines.old result (session server.new self.now)
             lines.new }
     {
+        if !server.runs_on(self.id) {
+            return Ok(());
+        }
         let line = Line::Run(server.next_entry()?, self.name.copy()?, words.copy()?);
         let now = server.clock();
         let id = self.id;
@@ -167,11 +170,13 @@ impl Link {
         if !self.down.is_open() || !server.gives_on(self.id) || count > server.waiting(self.id) {
             return Err(WorldFault::NothingThere);
         }
-        self.take_down(server, count, lines)
+        self.take_down(server, count, lines)?;
+        self.end_down(server);
+        Ok(())
     }
 
-    /// The server's end sends all that its connection was not given yet, or the EOF of one that has
-    /// ended. After an EOF nothing is sent.
+    /// The server's end sends all that its connection was not given yet, and then the EOF of one
+    /// that has ended. After an EOF nothing is sent.
     pub fn send_all(&mut self, server: &mut Server, lines: &mut Lines) -> Result<(), WorldFault>
         ensures { Gives (send_all (session server.old self.old)) lines.old result
             (session server.new self.new) lines.new }
@@ -183,7 +188,19 @@ impl Link {
             self.down.finish();
             return Ok(());
         }
-        self.take_down(server, u64::MAX, lines)
+        self.take_down(server, u64::MAX, lines)?;
+        self.end_down(server);
+        Ok(())
+    }
+
+    /// Once nothing is left of what a connection that has ended was sent, its EOF follows.
+    fn end_down(&mut self, server: &Server)
+        requires { gives_on server.now.book.limits server.now.book.past self.old.id ≡ true }
+        ensures { session server.now self.new ≡ with_end (session server.now self.old) }
+    {
+        if !server.runs_on(self.id) && server.waiting(self.id) == 0 {
+            self.down.finish();
+        }
     }
 
     /// One Take, unless there is nothing to take.

@@ -16,9 +16,9 @@ use Rattle.serial_model.specs.History.{admitted, expired, latest, unsent, runs_o
 use Rattle.serial_model.specs.History.{reads_on, gives_on}
 use Rattle.serial_model.specs.Steps.{Turn as Stepped, book_step, BookStep, gone}
 use Rattle.serial_model.specs.Steps.{running, taking, ticking, closing}
-use Rattle.serial_model.proofs.Streams.{gives_is_runs, reads_is_runs}
 use Rattle.serial_model.proofs.Turning.{by_step}
 use Rattle.shared_book.specs.Turns.{TurnStep}
+use Rattle.shared_book.proofs.Histories.{no_runs_ungiven, no_runs_unread}
 
 -- by the case of a test, which is known in each
 by_test : {X : Type 0} (P : X → Type 0) (b : Bool) (x y : X) → (b ≡ true → P x)
@@ -104,11 +104,11 @@ module _ (l : Limits) (past : List Entry) where
       by_test (At (Take id most)) (gives_on l past id)
       (taking past id most (take most (unsent l id past))) (gone past id)
       (λ on. taking_says id most on (take most (unsent l id past)) refl)
-      (λ off. (refl, None, (refl, sym (gives_is_runs l past id) ∙ off), refl))
+      (λ off. (refl, None, (refl, no_runs_ungiven l id past off), refl))
   step_says (Close id) =
       by_test (At (Close id)) (reads_on l past id) (closing past id) (gone past id)
       (λ on. (refl, Some (entry.Close id), refl, refl))
-      (λ off. (refl, None, (refl, sym (reads_is_runs l past id) ∙ off), refl))
+      (λ off. (refl, None, (refl, no_runs_unread l id past off), refl))
 
   -- a Close takes no memory
   memory_says : (call : BookCall) → BookStep l past call (Refused NoMemory) past

@@ -1,14 +1,17 @@
 -- What stays true of a server's history, whatever is added to it.
 use Rattle.std.proofs.Common.{◌≡◌, ◌≤◌, ◌+◌, ℕ, List, [], ◌∷◌, ◌++◌, length, Bool, true, false}
 use Rattle.std.proofs.Common.{cond, refl, ap, ◌∙◌, subst, arith, length-append, eq-eqb}
-use Rattle.std.specs.Prelude.{◌&&◌}
+use Rattle.std.proofs.Common.{◌<◌, drop}
+use Rattle.std.specs.Prelude.{◌&&◌, not}
 use Rattle.std.proofs.lemmas.Bool.Decides.{nat_tests}
 use Rattle.turn_lock.specs.History.{IsPrefix}
 use Rattle.serial_model.specs.declared.history.Limits.{Limits}
 use Rattle.serial_model.specs.declared.history.Entry.{Entry}
 use Rattle.serial_model.specs.declared.history.Entry.TheVariants.{Admit, Close}
-use Rattle.serial_model.specs.History.{admitted, is_admitted, has_ended, runs_on, stream}
-use Rattle.serial_model.specs.History.{taken}
+use Rattle.serial_model.specs.declared.standing.Standing.{Standing}
+use Rattle.serial_model.specs.State.{is_live, keeps_bytes, may_take}
+use Rattle.serial_model.specs.History.{admitted, is_admitted, gives_on, has_ended, reads_on}
+use Rattle.serial_model.specs.History.{runs_on, state, stream, taken, unsent}
 use Rattle.serial_model.proofs.Standings as standings
 use Rattle.serial_model.proofs.Streams.{stream_more}
 
@@ -51,6 +54,46 @@ module _ (l : Limits) (c : ℕ) where
   pub ended_or : (past : List Entry) → is_admitted past c ≡ true → runs_on l past c ≡ false
       → has_ended l c past ≡ true
   ended_or past on h = grind (arith, nat_tests)
+
+  -- ---- what a connection may do, by how far it has ended
+
+  live_takes : (a : Bool) (x : Standing) → (a && may_take x) ≡ false
+      → (a && not (not (is_live x))) ≡ false
+  live_takes a x h = grind arith
+
+  live_keeps : (a : Bool) (x : Standing) → (a && keeps_bytes x) ≡ false
+      → (a && not (not (is_live x))) ≡ false
+  live_keeps a x h = grind arith
+
+  -- no Run is accepted where no Take is, nor where no Close is
+  pub no_runs_ungiven : (past : List Entry) → gives_on l past c ≡ false → runs_on l past c ≡ false
+  no_runs_ungiven past h = live_takes (is_admitted past c) ((state l past).standing c) h
+
+  pub no_runs_unread : (past : List Entry) → reads_on l past c ≡ false → runs_on l past c ≡ false
+  no_runs_unread past h = live_keeps (is_admitted past c) ((state l past).standing c) h
+
+  keeps_some : (a k : Bool) (x : Standing) (xs : List ℕ) → (a && may_take x) ≡ true
+      → k ≡ keeps_bytes x → 0 < length (cond k xs []) → (a && k) ≡ true
+  keeps_some a k x xs on is some = grind arith
+
+  -- what can be taken was kept
+  pub kept_by : (past : List Entry) → gives_on l past c ≡ true → 0 < length (unsent l c past)
+      → reads_on l past c ≡ true
+  unfolding unsent
+  kept_by past on some =
+      keeps_some (is_admitted past c) _ ((state l past).standing c)
+      (drop (taken l c past) (stream l c past)) on refl some
+
+  kept_if : (a k : Bool) (xs : List ℕ) → (a && k) ≡ true → cond k xs [] ≡ xs
+  kept_if a k xs on = grind arith
+
+  -- what was not taken can be, where it was kept
+  pub unsent_kept : (past : List Entry) → reads_on l past c ≡ true
+      → unsent l c past ≡ drop (taken l c past) (stream l c past)
+  unfolding unsent
+  unsent_kept past on =
+      kept_if (is_admitted past c) (keeps_bytes ((state l past).standing c))
+      (drop (taken l c past) (stream l c past)) on
 
   taken_if : (b : Bool) (n more : ℕ) → n ≤ cond b (n + more) n
   taken_if b n more = grind (arith, nat_tests)

@@ -17,19 +17,22 @@ use Rattle.serial_model.specs.declared.history.BookReply.TheVariants.{Admitted, 
 use Rattle.serial_model.specs.declared.history.BookReply.TheVariants.{Bytes, Refused}
 use Rattle.serial_model.specs.declared.history.BookRefusal.{BookRefusal}
 use Rattle.serial_model.specs.declared.history.BookRefusal.TheVariants.{Gone, NoMemory}
-use Rattle.serial_model.specs.History.{is_admitted, expired, has_ended, latest}
+use Rattle.serial_model.specs.History.{is_admitted, expired, gives_on, has_ended, latest, unsent}
 use Rattle.serial_model.specs.Steps.{BookStep}
-use Rattle.serial_model.proofs.Standings.{gives_live, reads_over}
+use Rattle.serial_model.proofs.Standings.{reads_over}
 use Rattle.shared_book.specs.Turns.{Place, TurnStep, limits_of, limits_in, Refuses, Admits, Runs}
 use Rattle.shared_book.specs.Turns.{Gives, Rests, Ticks, Closes}
 use Rattle.shared_book.specs.Batches.{refusal_by}
 use Rattle.shared_book.specs.declared.turns.Refusal.{Refusal}
 use Rattle.shared_book.specs.declared.turns.Refusal.TheVariants as refusal
-use Rattle.shared_book.proofs.Histories.{ended_or, ended_now, begins_lift, admitted_more}
+use Rattle.shared_book.proofs.Histories.{ended_or, ended_now, begins_lift, admitted_more, kept_by}
 use Rattle.shared_book.proofs.Did.{Said, says, close_says, comes, named}
 
 nothing_waits : (n : ℕ) (xs : List ℕ) → 0 < n → take n xs ≡ [] → xs ≡ []
 nothing_waits n xs lt h = grind arith
+
+some_taken : (n : ℕ) (xs : List ℕ) → 0 < length (take n xs) → 0 < length xs
+some_taken n xs some = grind arith
 
 pub entries_long : {E : Type 0} (h : List (ℕ × E)) → length (entries h) ≡ length h
 entries_long [] = refl
@@ -149,7 +152,9 @@ module _ (before after : Place) where
           past = p.past;
           begins = p.begins;
           given = s.1;
-          live = gives_live (limits_of before) p.past id s.2;
+          keeps = kept_by (limits_of before) id p.past s.2
+              (some_taken most (unsent (limits_of before) id p.past)
+              (subst (λ z. 0 < length z) s.1 s.3));
           grows = grows_by p (Some (entry.Take id most)) one;
           ends = ends_by p (Some (entry.Take id most)) one;
         },
@@ -164,7 +169,7 @@ module _ (before after : Place) where
       let l = limits_of before in
       record {
         none = grind (arith, ends_same, nothing_waits);
-        live = ap (has_ended l id) (ends_same p none) ∙ gives_live l p.past id s.2;
+        gives = ap (λ x. gives_on l x id) (ends_same p none) ∙ s.2;
         grows = stays p none;
       }
 

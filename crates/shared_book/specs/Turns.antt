@@ -10,7 +10,8 @@ use Rattle.serial_model.specs.declared.history.Entry.{Entry}
 use Rattle.serial_model.specs.declared.history.Entry.TheVariants as entry
 use Rattle.serial_model.specs.declared.history.BookCall.{BookCall}
 use Rattle.serial_model.specs.declared.history.BookReply.{BookReply}
-use Rattle.serial_model.specs.History.{admitted, expired, has_ended, latest, unsent}
+use Rattle.serial_model.specs.History.{admitted, expired, gives_on, has_ended, latest, reads_on}
+use Rattle.serial_model.specs.History.{unsent}
 use Rattle.serial_model.specs.Steps.{BookStep}
 use Rattle.seat_turns.specs.Own.{past_of, Grows}
 use Rattle.shared_book.specs.declared.turns.Refusal.{Refusal}
@@ -75,14 +76,14 @@ pub record Gives (id most : ℕ) (bytes : List ℕ) (before after : Place) : Typ
   pub past : List Entry
   pub begins : IsPrefix (past_of before) past
   pub given : bytes ≡ take most (unsent (limits_of before) id past)
-  pub live : has_ended (limits_of before) id past ≡ false
+  pub keeps : reads_on (limits_of before) past id ≡ true
   pub grows : Grows before after ((entry.Take id most, past) ∷ [])
   pub ends : past_of after ≡ entry.Take id most ∷ past
 
--- a Take that found nothing
+-- a Take that found nothing: all was taken, or a Close behind a QUIT gave it up
 pub record Rests (id : ℕ) (before after : Place) : Type 0 where
   pub none : unsent (limits_of before) id (past_of after) ≡ []
-  pub live : has_ended (limits_of before) id (past_of after) ≡ false
+  pub gives : gives_on (limits_of before) (past_of after) id ≡ true
   pub grows : Grows before after []
 
 -- a Tick that found these keys due, and took them out

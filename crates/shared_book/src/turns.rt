@@ -137,7 +137,7 @@ pub fn tick<R: Wait>(
     }
 }
 
-/// Closes the connection, where it has not ended and a ticket is left.
+/// Closes the connection, where it was not closed and a ticket is left; also one that quit.
 #[tactic(auto, using(crate::proofs::Outcomes::closing))]
 pub fn close<R: Wait>(rt: &R, lock: &TurnLock<SharedBook>, seat: &mut Seat<SharedBook>, id: u64)
     requires lock { seat.old.lock ≡ lock.now }

@@ -1,1 +1,2 @@
 mod KeysOnce
+mod Counting

@@ -7,5 +7,6 @@ mod reads;
 mod run;
 mod writes;
 
+pub use numbers::{add_number, take_number};
 pub use run::{is_string, run_string};
 pub use writes::{moment_after, take_text};

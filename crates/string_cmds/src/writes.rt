@@ -47,7 +47,7 @@ pub fn moment_after(moment: u64, unit: u64, number: i64) -> u64
 }
 
 /// The deadline of the key.
-pub(crate) fn deadline_of(space: &Keyspace, key: &[u8]) -> Option<u64>
+fn deadline_of(space: &Keyspace, key: &[u8]) -> Option<u64>
     ensures { result ≡ deadline_at key.now space.now }
 {
     match space.get(key) {

@@ -43,7 +43,7 @@ fn other_age(others: &BTreeMap<Vec<u8>, u64>, key: &[u8]) -> Option<u64>
     }
 }
 
-/// The age of a key.
+/// The age of a key. Where no key has a mark, none is reckoned.
 pub fn age_of(
     rows: &BTreeMap<u64, Held>,
     marks: &BTreeMap<u64, u64>,
@@ -53,6 +53,9 @@ pub fn age_of(
     ensures { result
         ≡ age_at key.now rows.now.entries marks.now.entries others.now.entries }
 {
+    if marks.is_empty() {
+        return other_age(others, key);
+    }
     match marks.get(&mark_of(key)) {
         Some(age) => {
             if is_hit(rows, *age, key) {

@@ -1,6 +1,6 @@
 -- The rows of every table stand in the order in which their keys came to be remembered.
 use Rattle.std.proofs.Common.{◌≡◌, ◌+◌, ◌-◌, ◌≤◌, ℕ, zero, suc, List, [], ◌∷◌, Bool, true, false}
-use Rattle.std.proofs.Common.{length, map, take, drop, refl, arith, subst, sym}
+use Rattle.std.proofs.Common.{cond, length, map, take, drop, refl, arith, subst, sym}
 use Rattle.std.specs.Prelude.{filter, not}
 use Rattle.std.specs.Str.{bytes_eq}
 use Rattle.std.proofs.lemmas.Bool.{or_left, or_right, or_from}
@@ -18,9 +18,10 @@ use Rattle.serial_model.specs.Modes.{Memory, Remembers, Registers, Forgets}
 use Rattle.serial_model.specs.Tracking.{without_signalled, remembering}
 use Rattle.serial_model.specs.History.{state, table, table_then, table_grown, expired, signals}
 use Rattle.serial_model.specs.History.{made}
-use Rattle.serial_model.proofs.StateSteps.{run_table, tick_table}
+use Rattle.serial_model.proofs.StateSteps.{tick_table}
 use Rattle.serial_model.proofs.Each.{all_in, in_filter, in_drop}
 use Rattle.tracking_laws.specs.Drops.{is_remembered, rows_at_read, since}
+use Rattle.tracking_laws.proofs.Quits.{quits_here, run_left}
 
 itself : (key : List ℕ) → bytes_eq key key ≡ true
 itself key = (bytes_eq-Decides key key).1 refl
@@ -54,6 +55,11 @@ module _ (at : List ℕ → ℕ) where
   order_without : (id : ℕ) (rows : List Held) → AreInOrder rows
       → AreInOrder (without_connection id rows)
   order_without id rows h = order_filter is_held (map (freed_of id) rows) (order_freed id rows h)
+
+  order_unless : (b : Bool) (id : ℕ) (rows : List Held) → AreInOrder rows
+      → AreInOrder (cond b (without_connection id rows) rows)
+  order_unless true id rows h = order_without id rows h
+  order_unless false id rows h = h
 
   order_without_keys : (keys : List (List ℕ)) (rows : List Held) → AreInOrder rows
       → AreInOrder (without_keys keys rows)
@@ -182,10 +188,12 @@ module _ (l : Limits) where
   in_order (Admit id ∷ past) = renewed (Admit id) past (in_order past)
   in_order (Run id words moment ∷ past) =
       let grown = table_grown l past id words moment in
-      subst (AreInOrder (since l (Run id words moment ∷ past)))
-      (sym (run_table l past id moment words))
-      (order_drop (since l (Run id words moment ∷ past)) (length grown - l.table_max) grown
-      (grown_from past id words moment (in_order past)))
+      let at = since l (Run id words moment ∷ past) in
+      subst (AreInOrder at) (sym (run_left l past id words moment))
+      (order_unless at (quits_here l past id words moment) id
+      (drop (length grown - l.table_max) grown)
+      (order_drop at (length grown - l.table_max) grown
+      (grown_from past id words moment (in_order past))))
   in_order (Tick moment ∷ past) =
       renewed (Tick moment) past
       (subst (AreInOrder (since l past)) (sym (tick_table l past moment))

@@ -3,7 +3,7 @@ use Rattle.std.proofs.Common.{◌≡◌, ◌∙◌, ◌-◌, ℕ, List, [], ◌�
 use Rattle.std.proofs.Common.{length, drop, inl, inr, subst, sym, ap, refl, arith}
 use Rattle.std.specs.Prelude.{◌==◌, ◌&&◌, ◌||◌, not}
 use Rattle.std.proofs.lemmas.Bool.{and_parts, and_from, both_ways, cases_Bool, eqb-true}
-use Rattle.std.proofs.lemmas.Bool.{or_parts}
+use Rattle.std.proofs.lemmas.Bool.{or_left, or_parts}
 use Rattle.std.proofs.lemmas.Bool.Decides.{nat_tests}
 use Rattle.command_words.specs.declared.command.Command.{Command}
 use Rattle.command_words.specs.Queries.{read}
@@ -19,7 +19,8 @@ use Rattle.serial_model.specs.declared.history.Entry.TheVariants.{Admit, Run, Ti
 use Rattle.serial_model.specs.Modes.{Memory, Remembers, Forgets}
 use Rattle.serial_model.specs.Tracking.{has_id, without_signalled, remembering}
 use Rattle.serial_model.specs.History.{state, table, table_then, table_grown, mode, made, made_of}
-use Rattle.serial_model.specs.History.{IsLegal, served_reading, has_ended, runner, expired}
+use Rattle.serial_model.specs.History.{IsLegal, served_reading, has_ended, runner, expired, is_quit}
+use Rattle.serial_model.specs.Modes.{ending_of, is_quitting}
 use Rattle.serial_model.specs.History as history
 use Rattle.serial_model.specs.Laws.{is_among, is_forgets, remembers, signals_key, drops_key}
 use Rattle.serial_model.specs.Laws.{is_told, is_due}
@@ -31,11 +32,12 @@ use Rattle.serial_model.proofs.Trackers.{Tracks, all_track}
 use Rattle.serial_model.proofs.ToldLaws.{holder_of}
 use Rattle.serial_model.proofs.OwedLaws.{grown_is_owed}
 use Rattle.serial_model.proofs.ModeSteps.{mode_own}
-use Rattle.serial_model.proofs.StateSteps.{run_table, tick_table}
+use Rattle.serial_model.proofs.StateSteps.{run_table_stays, tick_table}
 use Rattle.tracking_laws.specs.Told.{keys_read, reads_key}
 use Rattle.tracking_laws.specs.Causes.{RememberedIsTracked, LeavesForCause, EachReadIsOwedOrTold}
 use Rattle.tracking_laws.specs.Causes.{EachReadIsRemembered}
 use Rattle.tracking_laws.proofs.Holders.{holds_with_keys}
+use Rattle.tracking_laws.proofs.Quits.{reads_no_quit, run_gone}
 use Rattle.tracking_laws.proofs.Remembering.{forgets_all, read_memory}
 
 -- ---- a connection that remembers a key is one that may
@@ -81,15 +83,16 @@ own_stops l past c id words moment h =
 right : (x y : Bool) → (x || y) ≡ true → x ≡ false → y ≡ true
 right x y e f = grind arith
 
--- where it does not forget, the key is signalled or dropped
+-- where it does not forget and does not quit, the key is signalled or dropped
 run_leaves : (l : Limits) (past : List Entry) (c id : ℕ) (words : List (List ℕ)) (moment : ℕ)
     (key : List ℕ)
     → has_id c (holders_of key (table l past)) ≡ true
     → has_id c (holders_of key (table l (Run id words moment ∷ past))) ≡ false
     → ((id == c) && is_forgets (made l past id words).memory) ≡ false
+    → ((id == c) && is_quit words) ≡ false
     → (signals_key l (Run id words moment) past key || drops_key l (Run id words moment) past key)
     ≡ true
-run_leaves l past c id words moment key told gone stays =
+run_leaves l past c id words moment key told gone stays goes_on =
     let signalled = signals_key l (Run id words moment) past key in
     let dropped = drops_key l (Run id words moment) past key in
     let grown = table_grown l past id words moment in
@@ -99,18 +102,17 @@ run_leaves l past c id words moment key told gone stays =
       | inr e ↦
           let p = or_parts signalled dropped e in
           let q = or_parts (is_among (expired l past moment) key) (signals sig key) p.0 in
-          absurd (both_ways _
-          (ap (λ rows. has_id c (holders_of key rows)) (sym (run_table l past id moment words))
-          ∙ gone)
+          absurd (both_ways _ (run_gone l past id words moment c key goes_on gone)
           (right _ _ (dropped_or_kept c key (length grown - l.table_max) grown
           (remembering_keeps c key id (made l past id words).memory _ stays
           (ap (has_id c) (signalled_apart c key sig (table_then l past moment) q.1
           ∙ keys_apart c key (expired l past moment) (table l past) q.0) ∙ told))) p.1))
     ]
 
-by_tracking : (signalled tracks dropped : Bool) → (tracks ≡ true → (signalled || dropped) ≡ true)
-    → (signalled || not tracks || false || dropped) ≡ true
-by_tracking signalled tracks dropped h = grind arith
+by_tracking : (signalled tracks quits dropped : Bool)
+    → (tracks ≡ true → quits ≡ false → (signalled || dropped) ≡ true)
+    → (signalled || not tracks || quits || dropped) ≡ true
+by_tracking signalled tracks quits dropped h = grind arith
 
 tick_leaves : (l : Limits) (past : List Entry) (c moment : ℕ) (key : List ℕ)
     → has_id c (holders_of key (table l past)) ≡ true
@@ -144,18 +146,18 @@ unfolding state
 leaves_for_cause l (Admit id) past c key told gone = absurd (both_ways _ gone told)
 leaves_for_cause l (Run id words moment) past c key told gone =
     by_tracking (signals_key l (Run id words moment) past key)
-    (is_on (mode l c (Run id words moment ∷ past)).tracking)
+    (is_on (mode l c (Run id words moment ∷ past)).tracking) ((id == c) && is_quit words)
     (drops_key l (Run id words moment) past key)
-    (λ tracks. run_leaves l past c id words moment key told gone
-    (own_stops l past c id words moment tracks))
+    (λ tracks goes_on. run_leaves l past c id words moment key told gone
+    (own_stops l past c id words moment tracks) goes_on)
 leaves_for_cause l (Tick moment) past c key told gone =
     first_of (is_among (expired l past moment) key)
     (not (is_on (mode l c (Tick moment ∷ past)).tracking)) false
     (tick_leaves l past c moment key told gone)
 leaves_for_cause l (Take id max) past c key told gone = absurd (both_ways _ gone told)
 leaves_for_cause l (Close id) past c key told gone =
-    third_of false (not (is_on (mode l c (Close id ∷ past)).tracking)) (id == c)
-    (close_leaves c id key (table l past) told gone)
+    third_of false (not (is_on (mode l c (Close id ∷ past)).tracking)) ((id == c) || false)
+    (or_left _ _ (close_leaves c id key (table l past) told gone))
 
 -- ---- each read is owed or told
 
@@ -236,9 +238,11 @@ each_read_is_remembered l (Run id words m) past c key h =
     let n = length grown - l.table_max in
     let held = subst (λ k. has_id k (holders_of key grown) ≡ true) p.2
     (run_remembers l id m words past p.0 key p.1 p.3 p.4) in
+    let goes_on : is_quit words ≡ false
+    = ap (λ r. is_quitting (ending_of r)) p.1 ∙ reads_no_quit p.0 key p.4 in
     subst (λ rows. (remembers rows c key
     || (drops_key l (Run id words m) past key && remembers grown c key)) ≡ true)
-    (sym (run_table l past id m words))
+    (sym (run_table_stays l past id m words goes_on))
     (kept_or_dropped (has_id c (holders_of key (drop n grown)))
     (drops_key l (Run id words m) past key) (has_id c (holders_of key grown)) held
     (dropped_or_kept c key n grown held))

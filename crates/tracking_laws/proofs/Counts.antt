@@ -1,9 +1,10 @@
 -- How often each group tells a connection of a key.
 use Rattle.std.proofs.Common.{◌≡◌, ◌+◌, ◌≤◌, ◌∙◌, refl, ap, ℕ, zero, suc, List, [], ◌∷◌, ◌++◌}
 use Rattle.std.proofs.Common.{Bool, true, false, cond, take, Some, None, Option, arith}
-use Rattle.std.specs.Prelude.{◌&&◌, ◌||◌, nat_lt, nat_le}
+use Rattle.std.specs.Prelude.{◌==◌, ◌&&◌, ◌||◌, filter, nat_lt, nat_le, not}
 use Rattle.std.specs.List.{list_any}
 use Rattle.std.specs.Str.{bytes_eq}
+use Rattle.std.proofs.lemmas.Bool.{eqb-true}
 use Rattle.std.proofs.lemmas.Bool.Decides.{nat_tests}
 use Rattle.id_set.specs.Ids.{AscendFrom, Ascend}
 use Rattle.track_table.specs.declared.table.Held.{Held}
@@ -97,6 +98,35 @@ module _ (c : ℕ) (key : List ℕ) where
         | false ↦ λ e. grind (arith, drop_once n rs h.2)
       ] refl
 
+  -- those that are passed over are not told
+  passed_one : (mine skips skips_me named : Bool) (rest : ℕ) → (mine ≡ true → skips ≡ skips_me)
+      → cond (not skips) (once (mine && named) + cond skips_me 0 rest) (cond skips_me 0 rest)
+      ≡ cond skips_me 0 (once (mine && named) + rest)
+  passed_one mine skips skips_me named rest f = grind arith
+
+  pub told_unless : (passed : ℕ → Bool) (told : List Invalidation)
+      → times_told c key (filter (λ i. not (passed i.to)) told)
+      ≡ cond (passed c) 0 (times_told c key told)
+  told_unless passed [] = same (passed c) 0
+    where
+      same : (b : Bool) (n : ℕ) → n ≡ cond b n n
+      same b n = grind arith
+  told_unless passed (i ∷ told) =
+      here (not (passed i.to))
+      ∙ ap (λ n. cond (not (passed i.to)) (once ((i.to == c) && is_named i.keys key) + n) n)
+      (told_unless passed told)
+      ∙ passed_one (i.to == c) (passed i.to) (passed c) (is_named i.keys key)
+      (times_told c key told) (λ e. ap passed (eqb-true i.to c e))
+    where
+      here : (b : Bool)
+          → times_told c key (cond b (i ∷ filter (λ k. not (passed k.to)) told)
+          (filter (λ k. not (passed k.to)) told))
+          ≡ cond b (once ((i.to == c) && is_named i.keys key)
+          + times_told c key (filter (λ k. not (passed k.to)) told))
+          (times_told c key (filter (λ k. not (passed k.to)) told))
+      here true = refl
+      here false = refl
+
   -- a flush names no key
   pub flush_names_none : (ids : List ℕ) → times_told c key (told_to None ids) ≡ 0
   flush_names_none [] = refl
@@ -124,6 +154,11 @@ module _ (c : ℕ) where
         told_of_flushes_none k (holders_of k rows),
         group_flushes_none keys (without_key k rows),
       )
+
+  pub filter_flushes_none : (p : Invalidation → Bool) (told : List Invalidation)
+      → times_flushed c told ≡ 0 → times_flushed c (filter p told) ≡ 0
+  filter_flushes_none p [] e = refl
+  filter_flushes_none p (i ∷ told) e = grind (arith, filter_flushes_none p told)
 
   pub drops_flush_none : (rows : List Held) → times_flushed c (drop_group rows) ≡ 0
   drops_flush_none [] = refl

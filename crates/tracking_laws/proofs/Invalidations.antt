@@ -1,10 +1,10 @@
--- Whom an entry tells, while no prefix is registered and nobody is passed over.
+-- Whom an entry tells, while no prefix is registered.
 use Rattle.std.proofs.Common.{◌≡◌, ◌∙◌, ◌++◌, ℕ, List, ap, append-nil}
 use Rattle.serial_model.specs.declared.history.Limits.{Limits}
 use Rattle.serial_model.specs.declared.history.Entry.{Entry}
 use Rattle.serial_model.specs.declared.history.Entry.TheVariants.{Run, Tick}
 use Rattle.serial_model.specs.Tracking.{group, drop_group, ids_where}
-use Rattle.serial_model.specs.Actions.{later_told, tracks}
+use Rattle.serial_model.specs.Actions.{is_passed, later_told, tracks}
 use Rattle.serial_model.specs.Plain.{signalled_group}
 use Rattle.serial_model.specs.History.{state, run_action, tick_action, expired, table, table_then}
 use Rattle.serial_model.specs.History.{signals, drops, invalidations}
@@ -16,6 +16,7 @@ pub run_told : (l : Limits) (past : List Entry) (id : ℕ) (words : List (List �
     → invalidations l (Run id words m) past
     ≡ group (expired l past m) (table l past)
     ++ (signalled_group (signals l past id words m)
+    (is_passed (run_action id words m (state l past)) (state l past))
     (ids_where (tracks (state l past)) (state l past).admitted) (table_then l past m)
     ++ drop_group (drops l past id words m))
 run_told l past id words m =

@@ -1,4 +1,5 @@
 pub mod Holders
+pub mod Quits
 pub mod Counts
 pub mod Invalidations
 pub mod Remembering

@@ -16,7 +16,7 @@ use Rattle.serial_model.specs.Modes.{Memory, Remembers, Registers, Forgets}
 use Rattle.serial_model.specs.Tracking.{remembering, without_signalled}
 use Rattle.serial_model.specs.History.{table, table_then, table_grown, expired, signals, mode}
 use Rattle.serial_model.specs.History.{state, served_reading, made_of, made, runner}
-use Rattle.serial_model.proofs.StateSteps.{run_table, tick_table}
+use Rattle.serial_model.proofs.StateSteps.{tick_table}
 use Rattle.command_words.specs.Laws as cause
 use Rattle.serial_model.specs.Laws.{is_among, remembers, drops_key}
 use Rattle.serial_model.specs.Tracking.{has_id}
@@ -26,6 +26,7 @@ use Rattle.serial_model.proofs.KeptTables.{is_table, is_table_then, is_table_gro
 use Rattle.serial_model.proofs.KeptTables.{table_without_signalled}
 use Rattle.tracking_laws.proofs.Holders.{holds_with_keys, holds_without_keys, holds_freed}
 use Rattle.tracking_laws.proofs.Holders.{held_drop, none_behind}
+use Rattle.tracking_laws.proofs.Quits.{run_kept}
 use Rattle.tracking_laws.proofs.Remembering.{own_memory, Brings}
 use Rattle.std.proofs.lemmas.Bool.{or_left, and_parts, both_ways, false_from_ne_true}
 
@@ -102,8 +103,7 @@ remembered_is_read l (Admit id) past c key h = or_left _ _ h
 remembered_is_read l (Run id words moment) past c key h =
     let grown = table_grown l past id words moment in
     let here = held_drop c key (length grown - l.table_max) grown
-    (is_table_grown l past id words moment).ordered
-    (ap (λ rows. remembers rows c key) (sym (run_table l past id moment words)) ∙ h) in
+    (is_table_grown l past id words moment).ordered (run_kept l past id words moment c key h) in
     known _ _ _ _ _ (before_read l past c key id words moment)
     (grown_is l past c key id words moment here)
 remembered_is_read l (Tick moment) past c key h =
@@ -134,7 +134,7 @@ gone_is_forgotten l (Run id words moment) past c key gone h =
     let grown = table_grown l past id words moment in
     let n = length grown - l.table_max in
     let ordered = (is_table_grown l past id words moment).ordered in
-    let stays = ap (λ rows. remembers rows c key) (sym (run_table l past id moment words)) ∙ h in
+    let stays = run_kept l past id words moment c key h in
     let here = held_drop c key n grown ordered stays in
     let sig = signals l past id words moment in
     forgotten (drops_key l (Run id words moment) past key) _

@@ -18,18 +18,17 @@ use Rattle.track_modes.specs.ModeState.{ModeState}
 use Rattle.serial_model.specs.declared.history.Limits.{Limits}
 use Rattle.serial_model.specs.declared.history.Entry.{Entry}
 use Rattle.serial_model.specs.declared.history.Entry.TheVariants.{Admit, Run, Tick, Take, Close}
-use Rattle.serial_model.specs.Modes.{is_stopping}
 use Rattle.serial_model.specs.State.{State, is_on, is_live}
 use Rattle.serial_model.specs.Tracking.{Invalidation, drop_group, group, ids_where}
 use Rattle.serial_model.specs.Actions.{Sending, Message, End, Action, tracks, heard, replies}
-use Rattle.serial_model.specs.Actions.{rows_then}
+use Rattle.serial_model.specs.Actions.{is_passed, rows_then}
 use Rattle.serial_model.specs.Actions as actions
 use Rattle.serial_model.specs.Actions.{rows_grown, modes_then, to_one, is_overgrown, action_sends}
 use Rattle.serial_model.specs.Plain.{IsPlainAction, is_three, pushed, pushes}
 use Rattle.serial_model.specs.Plain.{signalled_group, tests_before, tests_then, told_then}
 use Rattle.serial_model.specs.Each.{AllIn, AllRows, AllTo}
 use Rattle.serial_model.specs.History.{state, sent_to, protocol, runs_on, has_ended}
-use Rattle.serial_model.specs.History.{ran}
+use Rattle.serial_model.specs.History.{is_quit, ran}
 use Rattle.serial_model.specs.History.{runner_in}
 use Rattle.serial_model.specs.History.{run_action}
 use Rattle.serial_model.specs.History.{tick_action, invalidations}
@@ -40,8 +39,9 @@ use Rattle.serial_model.proofs.PlainActions as plain_actions
 use Rattle.serial_model.proofs.PlainActions.{states_are_plain, run_plain, tick_plain, first_is}
 use Rattle.serial_model.proofs.PlainActions.{rest_is}
 use Rattle.serial_model.proofs.Sendings.{heard-append}
-use Rattle.serial_model.proofs.ServedRows.{none_ends}
-use Rattle.serial_model.proofs.StateSteps.{none_by_run, none_by_tick}
+use Rattle.serial_model.proofs.Each.{in_filter}
+use Rattle.serial_model.proofs.ServedRows.{none_stops}
+use Rattle.serial_model.proofs.StateSteps.{none_by_tick}
 use Rattle.serial_model.proofs.Tables.{sent_to-append, group_all, told_all, drop_group_all, ids_all}
 use Rattle.serial_model.proofs.Tables.{dropped_all, without_keys_all}
 use Rattle.serial_model.proofs.Trackers.{Tracks, all_track, grown_tracks, made_tracks}
@@ -49,6 +49,7 @@ use Rattle.tracking_laws.specs.Told.{once}
 use Rattle.tracking_laws.specs.Sent.{times_to, messages, while_on, SentIsTold}
 use Rattle.serial_model.proofs.Quiet.{Same, same_or_none, tick_none}
 use Rattle.tracking_laws.proofs.Invalidations.{run_told, tick_told}
+use Rattle.tracking_laws.proofs.Quits.{ends_here, quits_here}
 
 module _ (n c : ℕ) where
   to_more : (xs ys : List Invalidation) → times_to c (xs ++ ys) ≡ times_to c xs + times_to c ys
@@ -89,6 +90,25 @@ module _ (n c : ℕ) where
       ∙ ap (λ k. cond (test c) (once (i.to == c)) 0 + k) (push_count test told)
       ∙ both (test c) (once (i.to == c)) (times_to c told)
 
+  -- one that ends is sent its end behind the rest
+  with_end : (ss : List (ℕ × Sending)) (b : Bool) (id : ℕ)
+      → length (sent_to n c (ss ++ map {B = ℕ × Sending} (λ k. (k, End)) (cond b (id ∷ []) [])))
+      ≡ length (sent_to n c ss) + once (b && (id == c))
+  with_end ss b id =
+      ap length (sent_to-append n c ss
+      (map {B = ℕ × Sending} (λ k. (k, End)) (cond b (id ∷ []) [])))
+      ∙ length-append (sent_to n c ss) _
+      ∙ ap (λ k. length (sent_to n c ss) + k) (one b)
+    where
+      one : (b : Bool)
+          → length (sent_to n c (map {B = ℕ × Sending} (λ k. (k, End)) (cond b (id ∷ []) [])))
+          ≡ once (b && (id == c))
+      one b = grind arith
+
+  own_end : (runs quit mine : Bool) → (mine ≡ true → runs ≡ true)
+      → once ((runs && quit) && mine) ≡ once (mine && quit)
+  own_end runs quit mine f = grind arith
+
   zeros : (a b : ℕ) → a ≡ 0 → b ≡ 0 → a + b ≡ 0
   zeros a b e f = omega (arith, e, f)
 
@@ -118,10 +138,13 @@ module _ (n c : ℕ) where
       one : (b : Bool) → length {A = ℕ × Sending} (cond b ((n, Message p value) ∷ []) []) ≡ once b
       one b = grind arith
 
-signalled_all : (P : ℕ → Type 0) (sig : Signalled) (ids : List ℕ) (rows : List Held) → AllIn P ids
-    → AllRows P rows → AllTo P (signalled_group sig ids rows)
-signalled_all P (Keys keys) ids rows a b = group_all P keys rows b
-signalled_all P All ids rows a b = told_all P None ids a
+signalled_all : (P : ℕ → Type 0) (sig : Signalled) (passed : ℕ → Bool) (ids : List ℕ)
+    (rows : List Held) → AllIn P ids → AllRows P rows
+    → AllTo P (signalled_group sig passed ids rows)
+signalled_all P (Keys keys) passed ids rows a b =
+    in_filter (λ (i : Invalidation). P i.to) (λ i. not (passed i.to)) (group keys rows)
+    (group_all P keys rows b)
+signalled_all P All passed ids rows a b = told_all P None ids a
 
 -- ---- an action
 
@@ -190,12 +213,13 @@ module _ (l : Limits) (past : List Entry) (c : ℕ) where
         → times_to c (told_then l t s) ≡ 0
     later_none same off =
         let a = all_track l past in
-        to_more n c (signalled_group t.effect.signalled (ids_where (tracks s) s.admitted)
-        (rows_then t s)) (drop_group (dropped l.table_max (rows_grown t s)))
+        to_more n c (signalled_group t.effect.signalled (is_passed t s)
+        (ids_where (tracks s) s.admitted) (rows_then t s))
+        (drop_group (dropped l.table_max (rows_grown t s)))
         ∙ zeros n c _ _
         (not_told n c s.modes _
-        (signalled_all (Tracks s.modes) t.effect.signalled (ids_where (tracks s) s.admitted)
-        (rows_then t s)
+        (signalled_all (Tracks s.modes) t.effect.signalled (is_passed t s)
+        (ids_where (tracks s) s.admitted) (rows_then t s)
         (ids_all (Tracks s.modes) (tracks s) s.admitted
         (λ h some le e. (and_parts _ (is_on s h) e).0))
         (without_keys_all (Tracks s.modes) t.expired s.table a.of_keys)) (sym same.1 ∙ off))
@@ -224,24 +248,30 @@ module _ (l : Limits) (past : List Entry) (c : ℕ) where
     run_count : is_on s c ≡ true
         → length (sent_to n c (action_sends (is_overgrown l t s) l t s))
         ≡ messages p (times_to c (invalidations l (Run id words moment) past)) + once (id == c)
+        + once ((id == c) && is_quit words)
     run_count on =
         let first = times_to c (group t.expired s.table) in
         let later = times_to c (told_then l t s) in
         let replied = length (sent_to n c (replies t)) in
-        ap (λ ids. length (sent_to n c (actions.messages l t s ++ map (λ k. (k, End)) ids)))
-        (none_by_run l id words moment s)
-        ∙ ap (λ ss. length (sent_to n c ss)) (append-nil (actions.messages l t s))
-        ∙ action_count t (run_plain id words moment s (states_are_plain l past)) on
+        ap (λ ids. length (sent_to n c (actions.messages l t s
+        ++ map {B = ℕ × Sending} (λ k. (k, End)) ids)))
+        (ends_here l past id words moment)
+        ∙ with_end n c (actions.messages l t s) (quits_here l past id words moment) id
+        ∙ ap (λ k. length (sent_to n c (actions.messages l t s)) + k)
+        (own_end n c (runs_on l past id) (is_quit words) (id == c)
+        (λ e. ap (runs_on l past) (eqb-true id c e) ∙ sym (on_is l past c) ∙ on))
+        ∙ ap (λ k. k + once ((id == c) && is_quit words))
+        (action_count t (run_plain id words moment s (states_are_plain l past)) on
         ∙ ap (λ k. k + replied + cond (tests_then t s c) later 0) (first_count t on)
         ∙ ap (λ k. messages p first + replied + k) (later_count on)
         ∙ ap (λ k. messages p first + k + messages p later)
         (reply_count n c id t.effect.mode.proto t.effect.reply _
-        (ap (λ e. cond (is_stopping e) None (Some (ran l past id words moment).reply))
-        (none_ends (reading words))))
+        (ap (λ b. cond b None (Some (ran l past id words moment).reply))
+        (none_stops (reading words))))
         ∙ turned (messages p first) (once (id == c)) (messages p later)
         ∙ ap (λ k. k + once (id == c)) (sum n c p first later
         ∙ ap (messages p) (sym (to_more n c (group t.expired s.table) (told_then l t s))
-        ∙ sym (ap (times_to c) (run_told l past id words moment))))
+        ∙ sym (ap (times_to c) (run_told l past id words moment)))))
       where
         turned : (a b d : ℕ) → a + b + d ≡ (a + d) + b
         turned a b d = omega arith
@@ -249,7 +279,7 @@ module _ (l : Limits) (past : List Entry) (c : ℕ) where
   tick_count : (moment : ℕ) → is_on s c ≡ true
       → length (sent_to n c (action_sends (is_overgrown l (tick_action moment s) s) l
       (tick_action moment s) s))
-      ≡ messages p (times_to c (invalidations l (Tick moment) past)) + 0
+      ≡ messages p (times_to c (invalidations l (Tick moment) past)) + 0 + 0
   tick_count moment on =
       let t = tick_action moment s in
       let first = times_to c (group t.expired s.table) in
@@ -262,9 +292,9 @@ module _ (l : Limits) (past : List Entry) (c : ℕ) where
       ∙ ap (λ told. messages p first + 0 + cond (tests_then t s c) (times_to c told) 0)
       (tick_none l past moment)
       ∙ nothing (tests_then t s c) (messages p first)
-      ∙ ap (λ k. messages p k + 0) (sym (ap (times_to c) (tick_told l past moment)))
+      ∙ ap (λ k. messages p k + 0 + 0) (sym (ap (times_to c) (tick_told l past moment)))
     where
-      nothing : (b : Bool) (k : ℕ) → k + 0 + cond b 0 0 ≡ k + 0
+      nothing : (b : Bool) (k : ℕ) → k + 0 + cond b 0 0 ≡ k + 0 + 0
       nothing b k = grind arith
 
 -- ---- entries
@@ -272,13 +302,13 @@ module _ (l : Limits) (past : List Entry) (c : ℕ) where
 no_end : (k m : ℕ) (b : Bool) → k ≡ m → k ≡ m + once (b && false)
 no_end k m b e = grind arith
 
-silent : (b d : Bool) (p : Proto) → 0 ≡ while_on b (messages p 0 + 0) + once (d && false)
+silent : (b d : Bool) (p : Proto) → 0 ≡ while_on b (messages p 0 + 0 + 0) + once (d && false)
 silent b d p = grind arith
 
 close_count : (n c id : ℕ) (live : Bool) (on : Bool) (p : Proto) (mine : Bool)
     → ((id == c) ≡ true → live ≡ mine)
     → length (sent_to n c (cond live ((id, End) ∷ []) []))
-    ≡ while_on on (messages p 0 + 0) + once (not (not mine) && (id == c))
+    ≡ while_on on (messages p 0 + 0 + 0) + once (not (not mine) && (id == c))
 close_count n c id live on p mine f = grind arith
 
 pub sent_is_told : (l : Limits) (entry : Entry) (past : List Entry) → SentIsTold l entry past
@@ -289,7 +319,7 @@ sent_is_told l (Run id words moment) past c =
     let t = run_action id words moment s in
     let told = messages (protocol l c past)
     (times_to c (invalidations l (Run id words moment) past))
-    + once (id == c) in
+    + once (id == c) + once ((id == c) && is_quit words) in
     no_end _ (while_on (runs_on l past c) told) (not (has_ended l c past))
     (elim (cases_Bool (is_on s c)) [
       | inl on ↦ run_count l past c id words moment on
@@ -299,7 +329,8 @@ sent_is_told l (Run id words moment) past c =
 sent_is_told l (Tick moment) past c =
     let s = state l past in
     let t = tick_action moment s in
-    let told = messages (protocol l c past) (times_to c (invalidations l (Tick moment) past)) + 0 in
+    let told = messages (protocol l c past)
+    (times_to c (invalidations l (Tick moment) past)) + 0 + 0 in
     no_end _ (while_on (runs_on l past c) told) (not (has_ended l c past))
     (elim (cases_Bool (is_on s c)) [
       | inl on ↦ tick_count l past c moment on

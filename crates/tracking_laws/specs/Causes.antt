@@ -2,19 +2,28 @@
 use Rattle.std.specs.Prelude.{◌≡◌, ◌==◌, ◌&&◌, ◌||◌, ℕ, List, ◌∷◌, Bool, true, false, not}
 use Rattle.serial_model.specs.declared.history.Limits.{Limits}
 use Rattle.serial_model.specs.declared.history.Entry.{Entry}
-use Rattle.serial_model.specs.declared.history.Entry.TheVariants.{Close}
+use Rattle.serial_model.specs.declared.history.Entry.TheVariants.{Close, Run}
 use Rattle.serial_model.specs.History.{mode, table, has_ended}
-use Rattle.serial_model.specs.History.{is_admitted, is_tracking}
+use Rattle.serial_model.specs.History.{is_admitted, is_quit, is_tracking}
 use Rattle.serial_model.specs.Laws.{is_told, is_due, remembers, signals_key, drops_key}
 use Rattle.track_modes.specs.ModeState.{is_on}
 use Rattle.tracking_laws.specs.Told.{reads_key, rows_at_drop}
 
+-- the entry closes the connection
+abbrev pub closes : Entry → ℕ → Bool
+closes (Close id) c = id == c
+closes _ c = false
+
+-- the entry is the connection's QUIT
+abbrev pub quits : Entry → ℕ → Bool
+quits (Run id words moment) c = (id == c) && is_quit words
+quits _ c = false
+
 -- the entry is the end of the connection
 abbrev pub ends : Entry → ℕ → Bool
-ends (Close id) c = id == c
-ends _ c = false
+ends entry c = closes entry c || quits entry c
 
--- A connection comes to remember a key only by its own read.
+-- A connection comes to remember a key only by its own read, where its mode at that read says so.
 abbrev pub RememberedIsRead : Limits → Entry → List Entry → Type 0
 RememberedIsRead l entry past =
     (c : ℕ) (key : List ℕ)

@@ -10,7 +10,7 @@ use Rattle.serial_model.specs.Tracking.{Invalidation}
 use Rattle.serial_model.specs.History.{has_ended, invalidations, protocol, runs_on, sends, sent_to}
 use Rattle.serial_model.specs.History.{state}
 use Rattle.tracking_laws.specs.Told.{once}
-use Rattle.tracking_laws.specs.Causes.{ends}
+use Rattle.tracking_laws.specs.Causes.{closes, quits}
 
 -- how many of these are for the connection
 abbrev pub times_to : ℕ → List Invalidation → ℕ
@@ -32,11 +32,11 @@ while_on b n = if b then n else 0
 
 -- An entry sends a connection that has not ended a message for each time that it tells it, by the
 -- connection's protocol before the entry; one reply, where the entry is its own request; and its
--- end. It sends nothing to another.
+-- end, where that request is QUIT or the entry closes it. It sends nothing to another.
 abbrev pub SentIsTold : Limits → Entry → List Entry → Type 0
 SentIsTold l entry past =
     (c : ℕ)
     → length (sent_to (length past + 1) c (sends l entry (state l past)))
     ≡ while_on (runs_on l past c) (messages (protocol l c past)
-    (times_to c (invalidations l entry past)) + once (answers entry c))
-    + once (not (has_ended l c past) && ends entry c)
+    (times_to c (invalidations l entry past)) + once (answers entry c) + once (quits entry c))
+    + once (not (has_ended l c past) && closes entry c)

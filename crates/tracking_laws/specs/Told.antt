@@ -1,7 +1,8 @@
 -- How often an entry tells a connection of a key, and whether the key was remembered there (the
 -- client-side caching reference, "The invalidation table").
 use Rattle.std.specs.Prelude.{◌≡◌, ◌+◌, ◌<◌, ◌≤◌, ◌==◌, ◌&&◌, ◌||◌, ℕ, List, [], ◌∷◌, Bool}
-use Rattle.std.specs.Prelude.{true, false, Option, Some, None, Result, Ok, Err, if◌then◌else◌}
+use Rattle.std.specs.Prelude.{true, false, not, Option, Some, None, Result, Ok, Err}
+use Rattle.std.specs.Prelude.{if◌then◌else◌}
 use Rattle.command_words.specs.declared.command.Command.{Command}
 use Rattle.command_words.specs.declared.command.Signalled.{Signalled}
 use Rattle.command_words.specs.declared.command.Signalled.TheVariants as signalled
@@ -13,7 +14,9 @@ use Rattle.serial_model.specs.declared.history.Entry.{Entry}
 use Rattle.serial_model.specs.declared.history.Entry.TheVariants.{Run, Tick}
 use Rattle.track_modes.specs.ModeState.{remembers_read}
 use Rattle.serial_model.specs.Tracking.{Invalidation}
+use Rattle.serial_model.specs.Actions.{is_passed}
 use Rattle.serial_model.specs.History.{expired, signals, served_reading, mode, table, table_then}
+use Rattle.serial_model.specs.History.{run_action, state}
 use Rattle.serial_model.specs.History.{table_grown, invalidations, is_admitted, is_tracking}
 use Rattle.serial_model.specs.Laws.{is_among, remembers, drops_key}
 
@@ -82,6 +85,13 @@ abbrev pub flushes : Limits → Entry → List Entry → Bool
 flushes l (Run id words moment) past = is_flush (signals l past id words moment)
 flushes l _ past = false
 
+-- the connection runs the entry's command under NOLOOP: it is not told of the keys that this
+-- signals by name
+abbrev pub passes_over : Limits → Entry → List Entry → ℕ → Bool
+passes_over l (Run id words moment) past c =
+    let s = state l past in is_passed (run_action id words moment s) s c
+passes_over l _ past c = false
+
 -- the keys that a read names; words that are no command name none
 abbrev pub keys_read : Result Command WordFault → List (List ℕ)
 keys_read (Ok command) = read command
@@ -98,17 +108,18 @@ reads_key l _ past c key = false
 
 -- An entry tells a connection of a key once at each of its steps where the key leaves the table
 -- while the connection is remembered to hold it, and not else: where the key expires, where the
--- command signals it, and where it is dropped.
+-- command signals it, unless the connection runs that under NOLOOP, and where it is dropped.
 abbrev pub ToldByName : Limits → Entry → List Entry → Type 0
 ToldByName l entry past =
     (c : ℕ) (key : List ℕ)
     → times_told c key (invalidations l entry past)
     ≡ once (expires_key l entry past key && remembers (table l past) c key)
-    + once (signals_by_name l entry past key && remembers (rows_at_signal l entry past) c key)
+    + once (signals_by_name l entry past key && not (passes_over l entry past c)
+    && remembers (rows_at_signal l entry past) c key)
     + once (drops_key l entry past key && remembers (rows_at_drop l entry past) c key)
 
--- An entry tells a connection of all keys once, where it is a flush and the connection tracks, and
--- not else.
+-- An entry tells a connection of all keys once, where it is a flush and the connection tracks, its
+-- own under NOLOOP too, and not else.
 abbrev pub ToldOfAll : Limits → Entry → List Entry → Type 0
 ToldOfAll l entry past =
     (c : ℕ)

@@ -10,7 +10,8 @@ ghost use Rattle.tracking_laws.specs.Sent.{SentIsTold};
 ghost use Rattle.tracking_laws.specs.Told.{ToldByName, ToldIsRemembered, ToldOfAll, ToldOnce};
 
 /// At each entry a connection is told of a key by name exactly where the key leaves the table while
-/// the connection remembers it; of all keys exactly at a flush, if it tracks.
+/// the connection remembers it, but not where its own command under NOLOOP signals the key; of all
+/// keys exactly at a flush, if it tracks, its own under NOLOOP too.
 pub fn law_told_exactly_where_remembered()
     ensures by_name { OfEachEntry ToldByName }
     ensures of_all { OfEachEntry ToldOfAll }
@@ -28,8 +29,10 @@ pub fn law_told_once()
     ensures { OfEachEntry ToldOnce }
 {}
 
-/// A connection comes to remember a key by its own read alone, and remembers it no more only for a
-/// cause. A key that is signalled or dropped is forgotten until it is read again.
+/// A connection comes to remember a key by its own read alone, where its mode says so at that read,
+/// and remembers it no more only for a cause: the key is signalled or dropped, or the connection
+/// stops tracking or ends, by QUIT too. A key that is signalled or dropped is forgotten until it is
+/// read again, also where its own command under NOLOOP signals it.
 pub fn law_remembered_for_cause()
     ensures read { OfEachEntry RememberedIsRead }
     ensures leaves { OfEachEntry LeavesForCause }
@@ -50,7 +53,7 @@ pub fn law_each_read_is_owed_or_told()
 {}
 
 /// An entry sends a connection a message for each time that it tells it, and beside these its reply
-/// and its end alone.
+/// and its end alone, which a QUIT sends too.
 pub fn law_sent_is_told()
     ensures { OfEachEntry SentIsTold }
 {}

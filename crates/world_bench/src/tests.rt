@@ -1,4 +1,5 @@
 //! Tests of schedules: their text, and what a world prints beside a slow reference player.
+mod modes;
 mod reference_client;
 mod reference_links;
 mod reference_player;

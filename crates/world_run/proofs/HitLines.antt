@@ -23,7 +23,7 @@ use Rattle.server_links.specs.LinkEvent.{LinkEvent, Raw, Put, Over, Now, Tick}
 use Rattle.server_links.specs.LinksState.{LinksState}
 use Rattle.server_links.specs.LinkSteps.{over, over_named, place_of, step, tick, tick_lines}
 use Rattle.server_links.specs.Moves.{all_bytes, stopped_at, turned, run_one, run_all, run_requests}
-use Rattle.server_links.specs.Moves.{run_fed, serve_all, serve, take_down, send_all, send}
+use Rattle.server_links.specs.Moves.{run_fed, serve_all, serve, take_down, end_down, send_all, send}
 use Rattle.server_links.specs.Moves.{eof_lines, read_lines, read_bytes, read_eof, receive_all}
 use Rattle.server_links.specs.Moves.{move_of, moved}
 use Rattle.server_links.specs.Moves as link_moves
@@ -104,8 +104,12 @@ h_take : (most : ℕ) (s : Session) → Hitless (take_down most s)
 unfolding take_down
 h_take most s = grind (arith, h_then, h_reply)
 
+-- and perhaps an EOF behind it
+h_down : (most : ℕ) (s : Session) → Hitless (and_then (take_down most s) end_down)
+h_down most s = h_then (take_down most s) end_down (h_take most s) (λ t. tt)
+
 h_send_all : (s : Session) → Hitless (send_all s)
-h_send_all s = grind (arith, h_if, h_take)
+h_send_all s = grind (arith, h_if, h_down)
 
 h_read : (name bytes : List ℕ) → NoHits (read_lines name bytes)
 h_read name bytes = grind arith
@@ -119,7 +123,7 @@ unfolding link_moves.flow
 h_flow s = grind (arith, h_then, h_serve_all, h_send_all, h_receive_all)
 
 h_move : (event : LinkEvent) (s : Session) → Hitless (move_of event s)
-h_move event s = grind (arith, h_serve, h_flow, h_send_all, h_if, h_take, h_receive_all, h_read)
+h_move event s = grind (arith, h_serve, h_flow, h_send_all, h_if, h_down, h_receive_all, h_read)
 
 h_named : (p : Option ℕ) (event : LinkEvent) (w : LinksState)
     → Hitless (over_named p (move_of event) w)

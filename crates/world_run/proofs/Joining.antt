@@ -10,8 +10,8 @@ use Rattle.serial_model.specs.History.{admitted}
 use Rattle.serial_model.specs.Steps.{Turn, book_step}
 use Rattle.serial_model.specs.Steps as steps
 use Rattle.shared_cache.specs.declared.log.ClientMode.{ClientMode}
-use Rattle.shared_cache.specs.ClientFields.{IsServed}
 use Rattle.shared_cache.specs.Held.{Setup}
+use Rattle.currency.specs.Links.{IsKeyMode}
 use Rattle.script_text.specs.declared.line.Line.{Line}
 use Rattle.server_links.specs.declared.fault.WorldFault.TheVariants.{NameTaken, Refused}
 use Rattle.server_links.specs.LinkEvent.{Raw}
@@ -30,13 +30,8 @@ use Rattle.world_run.specs.World as world
 use Rattle.world_run.proofs.LinkEvents.{Comes, comes_refused, comes_unread, part_of, part_here}
 use Rattle.world_run.proofs.LinkEvents.{stands_again}
 use Rattle.world_run.proofs.Links.{IsUnread, Mute, Mutes, step_mutes}
-use Rattle.world_run.proofs.Members.{MemberPart}
+use Rattle.world_run.proofs.Members.{MemberPart, served_mode}
 use Rattle.world_run.proofs.Worlds.{NoneHas, Stable, WorldPart, WorldStands}
-
--- ---- a mode that is served
-
-served_mode : (m : ClientMode) → is_served m ≡ true → IsServed m
-served_mode m e = grind arith
 
 -- ---- a link that is new
 
@@ -89,7 +84,7 @@ module _ (l : Limits) (heard : ℕ → List ℕ) (raw : List ℕ → List ℕ) (
 -- ---- a client at a link that is new
 
 module _ (l : Limits) (heard : ℕ → List ℕ) (raw : List ℕ → List ℕ) (lines : List Line)
-    (name : List ℕ) (setup : Setup) (served : IsServed setup.mode) (room : 0 < setup.capacity)
+    (name : List ℕ) (setup : Setup) (served : IsKeyMode setup.mode) (room : 0 < setup.capacity)
     (old : LinksState) (w : WorldState) (h : WorldStands l heard raw lines w)
     (made : IsMade (data_link name) old w.links)
     (unread : read_on (data_link name) lines ≡ [])
@@ -161,7 +156,7 @@ module _ (l : Limits) (heard : ℕ → List ℕ) (raw : List ℕ → List ℕ) (
 
 module _ (l : Limits) (heard : ℕ → List ℕ) (raw : List ℕ → List ℕ) (lines : List Line)
     (w : WorldState) (h : WorldStands l heard raw lines w) (name : List ℕ) (setup : Setup)
-    (served : IsServed setup.mode) (room : 0 < setup.capacity) where
+    (served : IsKeyMode setup.mode) (room : 0 < setup.capacity) where
   -- the link, and the client at it
   made_joins : Comes l heard raw lines
       (and_then (links_step (Raw (data_link name)) w) (join name (length w.links.links) setup))
@@ -202,7 +197,7 @@ module _ (l : Limits) (heard : ℕ → List ℕ) (raw : List ℕ → List ℕ) (
 
 module _ (l : Limits) (heard : ℕ → List ℕ) (raw : List ℕ → List ℕ) (lines : List Line)
     (w : WorldState) (h : WorldStands l heard raw lines w) where
-  made_then : (name : List ℕ) (mode : ClientMode) (capacity : ℕ) → IsServed mode → 0 < capacity
+  made_then : (name : List ℕ) (mode : ClientMode) (capacity : ℕ) → IsKeyMode mode → 0 < capacity
       → Comes l heard raw lines
       (and_then (does w w []) (λ w. and_then (links_step (Raw (data_link name)) w)
       (join name (length w.links.links) (setup_by w mode capacity))))

@@ -12,7 +12,6 @@ use Rattle.resp_stream.specs.declared.fault.FaultPlace.{FaultPlace}
 use Rattle.resp_stream.specs.Parse.{parse_values}
 use Rattle.serial_model.specs.declared.history.Entry.{Entry}
 use Rattle.serial_model.specs.declared.history.Entry.TheVariants as entry
-use Rattle.serial_model.proofs.Standings.{ended_tick}
 use Rattle.shared_cache.specs.declared.log.ClientCall.{ClientCall}
 use Rattle.shared_cache.specs.declared.log.ClientCall.TheVariants as call
 use Rattle.shared_cache.specs.declared.log.Wire.TheVariants.{Main}
@@ -32,7 +31,7 @@ use Rattle.server_links.specs.Moves.{all_bytes, move_of, stopped_at}
 use Rattle.server_links.specs.Outcome.{Outcome, and_then, does, refuses, stays}
 use Rattle.server_links.specs.Session.{Session, session_at, with_session}
 use Rattle.server_links.proofs.Carries.{Carries}
-use Rattle.server_links.proofs.Ended.{StayOver, over_both, over_moved, over_same}
+use Rattle.server_links.proofs.Ended.{StayOver, over_both, over_by, over_moved, over_same}
 use Rattle.server_links.proofs.Names.{placed}
 use Rattle.server_links.proofs.Timing.{Timely, Times, named_timely, timely_both, timely_same}
 use Rattle.server_links.proofs.Outcomes.{Fronts, fronts_once, fronts_refuses, fronts_stays}
@@ -74,10 +73,9 @@ tick_kept w moment = record {
   grows = refl;
   others = λ i n. refl;
   stay = record {
-    over = λ at is. record {
-      ended = ended_tick w.limits w.past (at_place w.links at).id moment ∙ is.ended;
-      read = is.read;
-    };
+    over = λ at is.
+        over_by w at (entry.Tick moment ∷ w.past) w.links (entry.Tick moment ∷ []) refl refl is.read
+        is;
     named = λ at lt. refl;
   };
 }

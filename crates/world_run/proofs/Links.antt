@@ -23,7 +23,8 @@ use Rattle.server_links.specs.LinkEvent.{LinkEvent, Raw, Put, Over, Now, Tick}
 use Rattle.server_links.specs.LinksState.{LinksState, at_place, fresh_link}
 use Rattle.server_links.specs.LinkSteps.{admitting, over, over_named, place_of, raw_step, step}
 use Rattle.server_links.specs.Moves.{turned, turn, run_one, run_all, run_requests, run_fed, close}
-use Rattle.server_links.specs.Moves.{stop, serve_all, serve, take_down, send, read_lines, eof_lines}
+use Rattle.server_links.specs.Moves.{stop, serve_all, serve, take_down, end_down, with_end, send}
+use Rattle.server_links.specs.Moves.{read_lines, eof_lines}
 use Rattle.server_links.specs.Moves.{receive_all, receive, move_of}
 use Rattle.server_links.specs.OneHistory.{read_on}
 use Rattle.server_links.specs.Outcome.{Outcome, and_then, does, refuses, stays, within}
@@ -236,8 +237,13 @@ mutes_take : (most : ℕ) (s : Session) → Mutes (take_down most s)
 unfolding take_down
 mutes_take most s = mutes_then _ _ (mutes_turned s [] _) (λ t. mutes_does t _)
 
+-- and perhaps an EOF behind it
+mutes_down : (most : ℕ) (s : Session) → Mutes (and_then (take_down most s) end_down)
+mutes_down most s =
+    mutes_then (take_down most s) end_down (mutes_take most s) (λ t. mutes_stays (with_end t))
+
 mutes_send : (count : Option ℕ) (s : Session) → Mutes (send count s)
-mutes_send count s = grind (arith, mutes_take, mutes_stays, mutes_refuses)
+mutes_send count s = grind (arith, mutes_down, mutes_stays, mutes_refuses)
 
 -- an event by which no client's end reads
 unfoldable pub IsUnread : LinkEvent → Type 0

@@ -1,7 +1,7 @@
 -- What holds of each client of a world, wherever memory runs out: it and the history have been kept
 -- together by its link.
 use Rattle.std.proofs.Common.{◌≡◌, ◌+◌, ◌<◌, ◌≤◌, ℕ, List, ◌++◌, length, take, drop, map, sym, ap}
-use Rattle.std.proofs.Common.{subst, ◌∙◌, arith, append_assoc, length-append}
+use Rattle.std.proofs.Common.{subst, ◌∙◌, arith, append_assoc, length-append, true}
 use Rattle.std.proofs.lemmas.List.{take-append-drop}
 use Rattle.resp_value.specs.Lists.{IsPrefix}
 use Rattle.resp_value.specs.ValueTree.{tree_of}
@@ -9,17 +9,18 @@ use Rattle.resp_stream.specs.Parse.{requests_of, values_of}
 use Rattle.serial_model.specs.declared.history.Limits.{Limits}
 use Rattle.serial_model.specs.declared.history.Entry.{Entry}
 use Rattle.serial_model.specs.History.{runs_of, sent, stream, taken, IsLegal}
+use Rattle.shared_cache.specs.declared.log.ClientMode.{ClientMode}
 use Rattle.shared_cache.specs.declared.log.Wire.{Wire}
 use Rattle.shared_cache.specs.declared.log.Wire.TheVariants.{Main}
-use Rattle.shared_cache.specs.ClientFields.{IsServed}
 use Rattle.shared_cache.specs.Held.{commands}
 use Rattle.shared_cache.specs.Laws.{LegalLog, gots}
 use Rattle.shared_cache.specs.Out.{out}
-use Rattle.currency.specs.Links.{Client, HasWire, Meet, AreGot, IsCausal}
+use Rattle.currency.specs.Links.{Client, HasWire, IsKeyMode, Meet, AreGot, IsCausal}
 use Rattle.server_links.specs.LinksState.{LinksState, at_place}
 use Rattle.server_links.specs.OneHistory.{PartServes}
 use Rattle.world_run.specs.WorldState.{MemberState, data_link}
 use Rattle.world_run.specs.Members.{client_of}
+use Rattle.world_run.specs.World.{is_served}
 use Rattle.world_run.specs.WorldHistory.{taken_bytes}
 use Rattle.link_laws.proofs.Crossing.{heard_was_commanded, read_was_sent}
 use Rattle.resp_laws.proofs.Longer.{values_grow}
@@ -43,15 +44,18 @@ pub record MemberPart (ls : LinksState) (read : List ℕ) (m : MemberState) : Ty
   pub named : m.link ≡ data_link m.name
   pub below : m.place < length ls.links
   pub placed : (at_place ls.links m.place).name ≡ m.link
-  pub mode : IsServed m.state.setup.mode
+  pub mode : IsKeyMode m.state.setup.mode
   pub room : 0 < m.state.setup.capacity
   pub legal : LegalLog m.state.setup m.state.past
   -- what it got are the first values of what its end read
   pub got : IsPrefix (map tree_of (gots Main m.state.past)) (values_of read)
   pub causal : IsCausal ls.limits (client_of m) ls.past m.state.past
 
+pub served_mode : (m : ClientMode) → is_served m ≡ true → IsKeyMode m
+served_mode m e = grind arith
+
 -- what holds of a client's one wire
-on_main : (P : Wire → Type 0) (m : MemberState) → IsServed m.state.setup.mode → P Main
+on_main : (P : Wire → Type 0) (m : MemberState) → IsKeyMode m.state.setup.mode → P Main
     → (w : Wire) → HasWire m.state.setup.mode.shape w → P w
 on_main P m served p w has = grind arith
 

@@ -34,7 +34,7 @@ use Rattle.server_links.specs.LinkEvent.{LinkEvent, Raw, Put, Over, Now, Tick}
 use Rattle.server_links.specs.LinksState.{LinksState, at_place}
 use Rattle.server_links.specs.LinkSteps.{over, over_named, place_of, step, tick, tick_lines}
 use Rattle.server_links.specs.Moves.{stopped_at, turned, run_one, run_all, run_requests}
-use Rattle.server_links.specs.Moves.{run_fed, serve_all, serve, take_down, send_all, send}
+use Rattle.server_links.specs.Moves.{run_fed, serve_all, serve, take_down, end_down, send_all, send}
 use Rattle.server_links.specs.Moves.{eof_lines, read_lines, receive_all, move_of}
 use Rattle.server_links.specs.Moves as link_moves
 use Rattle.server_links.specs.OneHistory.{read_by, read_on}
@@ -202,11 +202,15 @@ module _ (o : Option (List ℕ)) where
       let t = book_step s.limits s.past (book.Take s.link.id most) in
       q_next o (turned s [] t) _ (q_reply s.link.name [] t.reply) (λ u. tt)
 
+  -- and perhaps an EOF behind it
+  q_down : (most : ℕ) (s : Session) → Quiets o (and_then (take_down most s) end_down)
+  q_down most s = q_next o (take_down most s) end_down (q_take most s) (λ t. tt)
+
   q_send_all : (s : Session) → Quiets o (send_all s)
-  q_send_all s = grind (arith, q_if, q_take)
+  q_send_all s = grind (arith, q_if, q_down)
 
   q_send : (count : Option ℕ) (s : Session) → Quiets o (send count s)
-  q_send count s = grind (arith, q_send_all, q_if, q_take)
+  q_send count s = grind (arith, q_send_all, q_if, q_down)
 
   q_read : (name bytes : List ℕ) → Apart o name → AllQuiet o (read_lines name bytes)
   q_read name bytes apart = grind arith

@@ -156,7 +156,7 @@ whole_history law l log_max events w valid e =
           (read_on link.name lines) w.links.past link)
           (put_is w events s.said (λ i lt. (s.each i lt).1) s.rest link.name)
           (serves (heard first at events) (s.said link.name) (read_on link.name lines)
-          (session_at at w.links) (s.links.accounts at lt));
+          (session_at at w.links) s.links.history.legal (s.links.accounts at lt));
       unread = λ name none. s.links.unread name (unplaced name w.links none);
       told = told_exactly w.links.limits w.links.past s.links.history.legal;
       clients = all_serviced law l raw lines w p;

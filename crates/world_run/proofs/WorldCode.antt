@@ -6,13 +6,7 @@ use Rattle.std.proofs.Common.{arith}
 use Rattle.std.specs.Option.{is_some}
 use Rattle.std.proofs.lemmas.List.{get_or_read, set-get_or}
 use Rattle.std.proofs.Math.Numerals.{suc-eq-add-one}
-use Rattle.resp_value.specs.declared.value.Proto.{Proto}
-use Rattle.resp_value.specs.declared.value.Proto.TheVariants.{Three}
 use Rattle.shared_cache.specs.declared.log.ClientMode.{ClientMode}
-use Rattle.shared_cache.specs.declared.log.Shape.{Shape}
-use Rattle.shared_cache.specs.declared.log.Shape.TheVariants.{Single}
-use Rattle.shared_cache.specs.declared.log.Caching.{Caching}
-use Rattle.shared_cache.specs.declared.log.Caching.TheVariants.{Default}
 use Rattle.script_text.specs.declared.event.Event.{Event}
 use Rattle.script_text.specs.declared.line.Line.{Line}
 use Rattle.server_links.specs.declared.fault.WorldFault.{WorldFault}
@@ -203,18 +197,6 @@ put_before name bytes at w lines found =
     (grind (arith, stops_here))
 
 -- ---- a client is made
-
-abbrev pub one_mode : ClientMode
-one_mode = record { shape = Single; proto = Three; caching = Default; noloop = false }
-
-mode_of : (s : Shape) (p : Proto) (k : Caching) (n : Bool)
-    → is_served (record { shape = s; proto = p; caching = k; noloop = n }) ≡ true
-    → record { shape = s; proto = p; caching = k; noloop = n } ≡ one_mode
-mode_of s p k n e = grind arith
-
--- one mode alone is served
-pub served_mode : (mode : ClientMode) → is_served mode ≡ true → mode ≡ one_mode
-served_mode mode e = mode_of mode.shape mode.proto mode.caching mode.noloop e
 
 module _ (name : List ℕ) (mode : ClientMode) (capacity : ℕ) (w : WorldState) where
   abbrev making : Stepped

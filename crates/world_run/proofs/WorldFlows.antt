@@ -386,7 +386,7 @@ module _ (l : Limits) (heard : ℕ → List ℕ) (raw : List ℕ → List ℕ) (
         client = refl;
       }) none in
       let t = (flow (seat_at c w)).state in (
-        record { up = k.link.0.0; down = k.link.1; sent = k.link.0.1 },
+        record { up = k.link.0.0; down = k.link.1; sent = k.link.0.1; ended = k.link.0.2 },
         λ few. ap untaken_bytes
             (get_or-set_same w.members c t.member (fresh_member [] 0 no_setup) there.0)
             ∙ k.client few,

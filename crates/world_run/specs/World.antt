@@ -15,10 +15,9 @@ use Rattle.script_text.specs.declared.line.Line.{Line}
 use Rattle.shared_cache.specs.declared.log.ClientMode.{ClientMode}
 use Rattle.shared_cache.specs.declared.log.Shape.{Shape}
 use Rattle.shared_cache.specs.declared.log.Shape.TheVariants.{Single, Pair}
-use Rattle.shared_cache.specs.declared.log.Caching.{Caching}
-use Rattle.shared_cache.specs.declared.log.Caching.TheVariants.{Default, OptIn, OptOut, Bcast}
 use Rattle.shared_cache.specs.declared.log.ClientCall.TheVariants as call
 use Rattle.shared_cache.specs.Held.{Setup}
+use Rattle.currency.specs.Links.{is_by_key}
 use Rattle.server_links.specs.declared.fault.WorldFault.{WorldFault}
 use Rattle.server_links.specs.declared.fault.WorldFault.TheVariants.{NoName, NameTaken}
 use Rattle.server_links.specs.declared.fault.WorldFault.TheVariants.{NothingThere, Refused}
@@ -82,16 +81,9 @@ abbrev pub is_third : Proto → Bool
 is_third Two = false
 is_third Three = true
 
-abbrev pub is_default : Caching → Bool
-is_default Default = true
-is_default OptIn = false
-is_default OptOut = false
-is_default (Bcast prefixes) = false
-
--- the modes that are served: one link, the third protocol, default caching
+-- the modes that are served: one link, the third protocol, and keys remembered as they are read
 abbrev pub is_served : ClientMode → Bool
-is_served mode =
-    is_single mode.shape && is_third mode.proto && is_default mode.caching && not mode.noloop
+is_served mode = is_single mode.shape && is_third mode.proto && is_by_key mode.caching
 
 -- the number of the refusal of a mode that is not served yet
 abbrev pub not_served : ℕ

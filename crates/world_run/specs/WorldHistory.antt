@@ -18,12 +18,11 @@ use Rattle.serial_model.specs.declared.history.Entry.{Entry}
 use Rattle.serial_model.specs.declared.history.Entry.TheVariants.{Run}
 use Rattle.serial_model.specs.History.{Sending, keyspace, sent}
 use Rattle.shared_cache.specs.declared.log.Wire.TheVariants.{Main}
-use Rattle.shared_cache.specs.ClientFields.{IsServed}
 use Rattle.shared_cache.specs.Notices.{invalidates}
 use Rattle.shared_cache.specs.Held.{held, held_for}
 use Rattle.shared_cache.specs.Laws.{Every, LegalLog, gots}
 use Rattle.shared_cache.specs.Out.{out as written, taken as taken_out}
-use Rattle.currency.specs.Links.{Meet, run_of}
+use Rattle.currency.specs.Links.{IsKeyMode, Meet, run_of}
 use Rattle.currency.specs.Points.{replied, up_to}
 use Rattle.currency.specs.Current.{HasPoint, IsCurrent, point}
 use Rattle.currency.specs.CompleteExactly.{CompleteExactly}
@@ -98,7 +97,7 @@ put_on w link events = put_by (client_of_link link w.members) w link events
 pub record Serviced (w : WorldState) (m : MemberState) : Type 0 where
   pub named : m.link ≡ data_link m.name
   pub link : place_of m.link w.links ≡ Some m.place
-  pub mode : IsServed m.state.setup.mode
+  pub mode : IsKeyMode m.state.setup.mode
   pub capacity : 0 < m.state.setup.capacity
   pub legal : LegalLog m.state.setup m.state.past
   pub meet : Meet w.links.limits (client_of m) w.links.past m.state.past

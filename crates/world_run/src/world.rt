@@ -2,6 +2,7 @@
 ghost use Rattle.std.specs.Prelude.{◌≡◌, ◌+◌, ◌^◌, ◌<◌, ◌≤◌, ℕ, IfOk, false, length, true};
 ghost use Rattle.script_text.specs.declared.event.Event.TheVariants as event;
 ghost use Rattle.script_text.specs.Valid.{IsValid};
+ghost use Rattle.currency.specs.Links.{is_by_key};
 ghost use Rattle.serial_model.specs.Steps.{AreValid};
 ghost use Rattle.server_links.specs.LinkEvent.{Over};
 ghost use Rattle.server_links.specs.LinksState.{AreApart, names};
@@ -237,13 +238,7 @@ impl World {
     {
         let link = data_link(self.alloc, name)?;
         let called = name.copy()?;
-        let mode = ClientMode {
-            shape: Shape::Single,
-            proto: Proto::Three,
-            caching: Caching::Default,
-            noloop: false,
-        };
-        let state = ClientState::new(self.alloc, mode, capacity, self.log_max)?;
+        let state = ClientState::new(self.alloc, copy_mode(mode), capacity, self.log_max)?;
         let place = self.links.count();
         let member = Member::new(self.alloc, called, link, place, state);
         Ok(member)
@@ -413,13 +408,38 @@ impl World {
     }
 }
 
-/// The modes that are served: one link, the third protocol, default caching.
+/// The modes that are served: one link, the third protocol, and keys remembered as they are read.
 fn is_served(mode: &ClientMode) -> bool
     ensures { result ≡ is_served mode.now }
 {
-    match (mode.shape, mode.proto, &mode.caching) {
-        (Shape::Single, Proto::Three, Caching::Default) => !mode.noloop,
+    match (mode.shape, mode.proto) {
+        (Shape::Single, Proto::Three) => !matches!(mode.caching, Caching::Bcast(_)),
         _ => false,
+    }
+}
+
+// It takes no memory, since no prefixes are kept in a mode that is served.
+fn copy_mode(mode: &ClientMode) -> ClientMode
+    requires { is_served mode.now ≡ true }
+    ensures { result ≡ mode.now }
+{
+    ClientMode {
+        shape: mode.shape,
+        proto: mode.proto,
+        caching: copy_caching(&mode.caching),
+        noloop: mode.noloop,
+    }
+}
+
+fn copy_caching(caching: &Caching) -> Caching
+    requires { is_by_key caching.now ≡ true }
+    ensures { result ≡ caching.now }
+{
+    match caching {
+        Caching::Default => Caching::Default,
+        Caching::OptIn => Caching::OptIn,
+        Caching::OptOut => Caching::OptOut,
+        Caching::Bcast(_) => unreachable!(),
     }
 }
 

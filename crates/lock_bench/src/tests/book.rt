@@ -147,7 +147,7 @@ fn wrong_row<'a>(
 }
 
 // The first row that a new book plays otherwise than it says.
-fn first_wrong<'a>(
+pub(super) fn first_wrong<'a>(
     alloc: Global,
     history_max: u64,
     table: &'a str,

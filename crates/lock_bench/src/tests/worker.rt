@@ -100,7 +100,16 @@ GET_a;*1;$007 = 100 = 100 = BadRequest(BadByte { offset: 13 }) 1 in 1 = $-1;
 SET_a_v;GET_a;*1;$007 = 100 = 100 = BadRequest(BadByte { offset: 22 }) 2 in 1 = +OK;$1;v;
 GET_a;GET_a; = 100 = 3 = LinkFault 2 in 2 = $-1
 GET_a; = 1 = 100 = PeerEnd 1 in 1 = $-1;
-SET_a_v;GET_a;,GET_a; = 2 = 100 = PeerEnd 3 in 2 = +OK;$1;v;$1;v;";
+SET_a_v;GET_a;,GET_a; = 2 = 100 = PeerEnd 3 in 2 = +OK;$1;v;$1;v;
+QUIT; = 100 = 100 = Quit 1 in 1 = +OK;
+PING;QUIT;PING; = 100 = 100 = Quit 2 in 1 = +PONG;+OK;
+PI,NG;QU,IT;PI,NG; = 100 = 100 = Quit 2 in 2 = +PONG;+OK;
+*1;$4;qu,IT;SET_a_v; = 100 = 100 = Quit 1 in 1 = +OK;
+GET_a;QUIT;QUIT;,idle,fail = 100 = 100 = Quit 2 in 1 = $-1;+OK;
+QUIT;*1;$007 = 100 = 100 = Quit 1 in 1 = +OK;
+QUIT; = 100 = 2 = LinkFault 1 in 2 = +O
+QUIT_a;GET_a; = 100 = 100 = PeerEnd 2 in 1 = \
+    -ERR wrong number of arguments for 'quit' command;$-1;";
 
 fn link_of(alloc: Global, steps: &str, room: usize) -> Result<CountedLink, AllocError> {
     let Ok(link) = MemoryLink::new(alloc, room, steps_of(alloc, steps)?) else {
@@ -222,6 +231,7 @@ fn a_gate_is_told_of_each_end(rt: HostRuntime) -> Result<(), Fail> {
         ("GET_a;", 100, 101),
         ("*1;$007", 100, 104),
         ("GET_a;", 3, 105),
+        ("QUIT;GET_a;", 100, 102),
     ] {
         let gate = counting_gate();
         let mut link = link_of(rt.alloc(), steps, room)?;

@@ -1,6 +1,6 @@
 //! A client, for the reference player: what it holds, answers and puts on its link is worked out
 //! anew from the list of all that it did and was given. It has no marks, no cache and no counts.
-use super::reference_server::names;
+use super::reference_server::{Opts, Request, Tracks, names, request_of};
 use command_words::{Query, put_printed};
 use resp_value::{NoMemory, Octets, Value, Words, put_request};
 use std::alloc::Global;
@@ -41,6 +41,7 @@ pub struct Held {
 pub struct Client {
     pub name: Octets,
     alloc: Global,
+    tracks: Tracks,
     capacity: u64,
     /// The oldest first.
     pub deeds: Vec<Deed>,
@@ -131,10 +132,11 @@ fn drop_earliest(held: &mut Vec<Held>) {
 }
 
 impl Client {
-    pub fn new(alloc: Global, name: Octets, capacity: u64) -> Client {
+    pub fn new(alloc: Global, name: Octets, tracks: Tracks, capacity: u64) -> Client {
         Client {
             name,
             alloc,
+            tracks,
             capacity,
             deeds: Vec::new(alloc),
             heard: Vec::new(alloc),
@@ -192,14 +194,33 @@ impl Client {
         None
     }
 
+    // Whether CLIENT CACHING goes before what a deed sends.
+    fn is_led(&self, deed: &Deed) -> bool {
+        match deed {
+            Deed::Fetch(_) => self.tracks.opts == Opts::In,
+            Deed::Command(words) => {
+                self.tracks.opts == Opts::Out && matches!(request_of(words), Request::Get(_))
+            }
+            _ => false,
+        }
+    }
+
+    // How many commands a deed sends.
+    fn sends(&self, deed: &Deed) -> u64 {
+        match deed {
+            Deed::Fetch(_) | Deed::Command(_) if self.is_led(deed) => 2,
+            Deed::Fetch(_) | Deed::Command(_) => 1,
+            _ => 0,
+        }
+    }
+
     /// The number of its last command.
     pub fn last_number(&self) -> u64 {
-        let sent = self
-            .deeds
-            .iter()
-            .filter(|deed| matches!(deed, Deed::Fetch(_) | Deed::Command(_)))
-            .count();
-        (sent as u64).saturating_add(HANDSHAKE)
+        let mut last = HANDSHAKE;
+        for deed in self.deeds.iter() {
+            last = last.saturating_add(self.sends(deed));
+        }
+        last
     }
 
     /// Whether a caller waits for the reply to the command of that number.
@@ -207,7 +228,7 @@ impl Client {
         let was_handed = self.deeds.iter().any(
             |deed| matches!(deed, Deed::Handed(other) if *other == number),
         );
-        number > HANDSHAKE && number <= self.last_number() && !was_handed
+        self.place_of(number).is_some() && !was_handed
     }
 
     /// The bytes of all its commands.
@@ -219,8 +240,11 @@ impl Client {
 
     fn put_written(&self, out: &mut Vec<u8>) -> Result<(), NoMemory> {
         out.extend_from_slice(b"*2\r\n$5\r\nHELLO\r\n$1\r\n3\r\n")?;
-        out.extend_from_slice(b"*3\r\n$6\r\nCLIENT\r\n$8\r\nTRACKING\r\n$2\r\nON\r\n")?;
+        self.put_tracking(out)?;
         for deed in self.deeds.iter() {
+            if self.is_led(deed) {
+                self.put_lead(out)?;
+            }
             match deed {
                 Deed::Fetch(query) => put_request(query.words(), out)?,
                 Deed::Command(words) => put_request(words, out)?,
@@ -241,15 +265,45 @@ impl Client {
         taken
     }
 
-    // The place of the query that was sent as the command of that number.
+    fn put_tracking(&self, out: &mut Vec<u8>) -> Result<(), NoMemory> {
+        let head: &[u8] = match (self.tracks.opts, self.tracks.noloop) {
+            (Opts::All, false) => b"*3\r\n",
+            (Opts::All, true) | (_, false) => b"*4\r\n",
+            (_, true) => b"*5\r\n",
+        };
+        let word: &[u8] = match self.tracks.opts {
+            Opts::All => b"",
+            Opts::In => b"$5\r\nOPTIN\r\n",
+            Opts::Out => b"$6\r\nOPTOUT\r\n",
+        };
+        out.extend_from_slice(head)?;
+        out.extend_from_slice(b"$6\r\nCLIENT\r\n$8\r\nTRACKING\r\n$2\r\nON\r\n")?;
+        out.extend_from_slice(word)?;
+        if self.tracks.noloop {
+            out.extend_from_slice(b"$6\r\nNOLOOP\r\n")?;
+        }
+        Ok(())
+    }
+
+    // What goes before a read: that it is to be remembered, or that it is not.
+    fn put_lead(&self, out: &mut Vec<u8>) -> Result<(), NoMemory> {
+        let word: &[u8] = match self.tracks.opts {
+            Opts::Out => b"$2\r\nNO\r\n",
+            _ => b"$3\r\nYES\r\n",
+        };
+        out.extend_from_slice(b"*3\r\n$6\r\nCLIENT\r\n$7\r\nCACHING\r\n")?;
+        out.extend_from_slice(word)?;
+        Ok(())
+    }
+
+    // The place of what was sent as the command of that number, behind CLIENT CACHING or not.
     fn place_of(&self, number: u64) -> Option<usize> {
-        let mut left = number.saturating_sub(HANDSHAKE);
+        let mut last = HANDSHAKE;
         for place in 0..self.deeds.len() {
-            if matches!(&self.deeds[place], Deed::Fetch(_) | Deed::Command(_)) {
-                left = left.saturating_sub(1);
-                if left == 0 {
-                    return Some(place);
-                }
+            let sends = self.sends(&self.deeds[place]);
+            last = last.saturating_add(sends);
+            if sends > 0 && last == number {
+                return Some(place);
             }
         }
         None

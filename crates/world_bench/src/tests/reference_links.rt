@@ -1,7 +1,7 @@
 //! The links of the reference player. It keeps the list of entries, the bytes in flight and what
 //! each end has read, and works out all else anew at each event.
 use super::reference_client::{Client, Deed};
-use super::reference_server::{all_sent, run_entry, stream};
+use super::reference_server::{all_sent, has_quit, run_entry, stream};
 use resp_stream::{FaultPlace, RequestReader, ValueReader};
 use resp_value::{NoMemory, Octets, Words};
 use script_text::{Line, put_line};
@@ -164,6 +164,10 @@ impl Past {
         is_open(id, self.entries.as_slice())
     }
 
+    fn has_quit(&self, id: u64) -> bool {
+        has_quit(id, self.entries.as_slice())
+    }
+
     // All that was sent to a connection.
     fn stream(&self, id: u64, count: usize) -> Result<Vec<u8>, NoMemory> {
         let past = self.entries.as_slice();
@@ -248,10 +252,10 @@ impl Past {
         for _ in 0..wire.heard.len().saturating_add(1) {
             match reader.next_request() {
                 Ok(Some(words)) => {
-                    if before == 0 {
-                        self.run(wire, words)?;
-                    } else {
+                    if before > 0 {
                         before -= 1;
+                    } else if !self.has_quit(wire.id) {
+                        self.run(wire, words)?;
                     }
                 }
                 Ok(None) => break,
@@ -296,11 +300,14 @@ impl Past {
 
     fn take(&mut self, wire: &mut Wire, max: u64) -> Result<(), NoMemory> {
         let bytes = self.first_unsent(wire.id, max)?;
-        if bytes.is_empty() {
-            return Ok(());
+        if !bytes.is_empty() {
+            self.add_take(wire, max, bytes.len() as u64)?;
+            wire.down.put(bytes.as_slice())?;
         }
-        self.add_take(wire, max, bytes.len() as u64)?;
-        wire.down.put(bytes.as_slice())
+        if self.has_quit(wire.id) && self.unsent(wire.id)?.is_empty() {
+            wire.down.finish();
+        }
+        Ok(())
     }
 
     pub fn send(&mut self, wire: &mut Wire) -> Result<(), NoMemory> {

@@ -4,17 +4,32 @@
 //! client's state or a limit.
 use super::reference_client::{Client, Deed, Held, shown};
 use super::reference_links::{Past, Wire};
-use super::reference_server::names;
+use super::reference_server::{Opts, Tracks, names};
 use command_words::{Query, is_control};
-use resp_value::{NoMemory, Octets, Words, put_request};
+use resp_value::{NoMemory, Octets, Proto, Words, put_request};
 use script_text::{Event, Line};
 use serial_model::Entry;
+use shared_cache::{Caching, ClientMode, Shape};
 use std::alloc::Global;
 
 #[derive(Drop)]
 pub struct ReferencePlayer {
     past: Past,
     wires: Vec<Wire>,
+}
+
+// How the server tracks for a client of this mode, where it is served.
+fn tracks_of(mode: &ClientMode) -> Option<Tracks> {
+    let opts = match (mode.shape, mode.proto, &mode.caching) {
+        (Shape::Single, Proto::Three, Caching::Default) => Opts::All,
+        (Shape::Single, Proto::Three, Caching::OptIn) => Opts::In,
+        (Shape::Single, Proto::Three, Caching::OptOut) => Opts::Out,
+        _ => return None,
+    };
+    Some(Tracks {
+        opts,
+        noloop: mode.noloop,
+    })
 }
 
 // How far the client has processed what was sent to it.
@@ -290,11 +305,17 @@ impl ReferencePlayer {
         self.link(name, wire)
     }
 
-    fn client(&mut self, name: &Octets, capacity: u64) -> Result<u64, NoMemory> {
+    fn client(&mut self, name: &Octets, mode: &ClientMode, capacity: u64) -> Result<u64, NoMemory> {
+        let Some(tracks) = tracks_of(mode) else {
+            return Ok(5);
+        };
+        if self.is_there(name) {
+            return Ok(2);
+        }
         let mut link = name.copy()?;
         link.append(b".data")?;
         let own = link.copy()?;
-        let client = Client::new(self.past.alloc, name.copy()?, capacity);
+        let client = Client::new(self.past.alloc, name.copy()?, tracks, capacity);
         let wire = Wire::new(self.past.alloc, self.next_id(), own, Some(client));
         self.link(&link, wire)
     }
@@ -332,9 +353,9 @@ impl ReferencePlayer {
     /// Plays an event, and answers the number of its fault, 0 for none.
     pub fn play(&mut self, event: &Event) -> Result<u64, NoMemory> {
         match event {
-            Event::Raw(name) | Event::Client(name, _, _) if self.is_there(name) => Ok(2),
+            Event::Raw(name) if self.is_there(name) => Ok(2),
             Event::Raw(name) => self.raw(name),
-            Event::Client(name, _, capacity) => self.client(name, *capacity),
+            Event::Client(name, mode, capacity) => self.client(name, mode, *capacity),
             Event::FlowAll => self.flow_all(),
             // no command that it knows gives a deadline, so no key is ever due
             Event::Now(moment) => {

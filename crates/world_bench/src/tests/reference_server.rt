@@ -1,8 +1,27 @@
 //! What a list of entries says of the server, for the reference player: each answer by a look at
-//! all of the list. It knows GET, SET, HELLO and CLIENT TRACKING without options.
+//! all of the list. It knows GET, SET, HELLO, PING, QUIT, CLIENT CACHING, and CLIENT TRACKING with
+//! OPTIN or OPTOUT and with NOLOOP.
 use resp_value::{NoMemory, Octets, Proto, Words};
 use serial_model::Entry;
 use std::alloc::Global;
+
+/// Which of the keys that a connection reads it is told of.
+#[derive(Clone, Copy, PartialEq, Eq)]
+pub enum Opts {
+    All,
+    /// Of a read behind CLIENT CACHING YES.
+    In,
+    /// Of a read that is not behind CLIENT CACHING NO.
+    Out,
+}
+
+/// How a connection tracks.
+#[derive(Clone, Copy)]
+pub struct Tracks {
+    pub opts: Opts,
+    /// It is not told of what it writes itself.
+    pub noloop: bool,
+}
 
 /// What words ask for, or the reply that refuses them.
 #[derive(Clone, Copy)]
@@ -10,7 +29,12 @@ pub enum Request<'a> {
     Get(&'a [u8]),
     Set(&'a [u8], &'a [u8]),
     Hello(Option<Proto>),
-    Track(bool),
+    Ping,
+    Quit,
+    /// On, or off.
+    Track(Option<Tracks>),
+    /// CLIENT CACHING YES, or NO.
+    Mark(bool),
     Wrong(&'a [u8]),
 }
 
@@ -32,10 +56,32 @@ fn is(word: &Octets, text: &[u8]) -> bool {
     word.as_slice().eq_ignore_ascii_case(text)
 }
 
+fn has(options: &[Octets], text: &[u8]) -> bool {
+    options.iter().any(|option| is(option, text))
+}
+
+// Of options that do not exclude each other.
+fn tracking_request(options: &[Octets]) -> Tracks {
+    let opts = if has(options, b"optin") {
+        Opts::In
+    } else if has(options, b"optout") {
+        Opts::Out
+    } else {
+        Opts::All
+    };
+    Tracks {
+        opts,
+        noloop: has(options, b"noloop"),
+    }
+}
+
 fn client_request(rest: &[Octets]) -> Request<'_> {
     match rest {
-        [name, word] if is(name, b"tracking") && is(word, b"on") => Request::Track(true),
-        [name, word] if is(name, b"tracking") && is(word, b"off") => Request::Track(false),
+        [name, word, options @ ..] if is(name, b"tracking") && is(word, b"on") => {
+            Request::Track(Some(tracking_request(options)))
+        }
+        [name, word] if is(name, b"tracking") && is(word, b"off") => Request::Track(None),
+        [name, word] if is(name, b"caching") => Request::Mark(is(word, b"yes")),
         _ => Request::Wrong(b"-ERR unknown subcommand\r\n"),
     }
 }
@@ -62,6 +108,8 @@ pub fn request_of(words: &Words) -> Request<'_> {
     let is_get = is(name, b"get");
     let is_set = is(name, b"set");
     match rest {
+        [] if is(name, b"ping") => Request::Ping,
+        [] if is(name, b"quit") => Request::Quit,
         [key] if is_get => Request::Get(key.as_slice()),
         _ if is_get => Request::Wrong(b"-ERR wrong number of arguments for 'get' command\r\n"),
         [key, value] if is_set => Request::Set(key.as_slice(), value.as_slice()),
@@ -94,17 +142,95 @@ fn proto_of(id: u64, past: &[Entry]) -> Proto {
     Proto::Two
 }
 
-fn tracks(id: u64, past: &[Entry]) -> bool {
-    for entry in past.iter().rev() {
+// While a connection tracks by one of the two words it can't be told the other.
+fn switches(tracks: Option<Tracks>, asked: Option<Tracks>) -> bool {
+    match (tracks, asked) {
+        (Some(tracks), Some(asked)) => matches!(
+            (tracks.opts, asked.opts),
+            (Opts::In, Opts::Out) | (Opts::Out, Opts::In)
+        ),
+        _ => false,
+    }
+}
+
+// How a connection tracks behind its own words.
+fn tracks_behind(tracks: Option<Tracks>, words: &Words) -> Option<Tracks> {
+    match request_of(words) {
+        Request::Track(asked) if !switches(tracks, asked) => asked,
+        _ => tracks,
+    }
+}
+
+fn tracks(id: u64, past: &[Entry]) -> Option<Tracks> {
+    let mut tracks = None;
+    for entry in past {
         if let Entry::Run { id: by, words, .. } = entry {
-            if let Request::Track(on) = request_of(words) {
-                if *by == id {
-                    return on;
-                }
+            if *by == id {
+                tracks = tracks_behind(tracks, words);
+            }
+        }
+    }
+    tracks
+}
+
+// What refuses CLIENT CACHING, if anything does.
+fn mark_fault(is_yes: bool, tracks: Option<Tracks>) -> Option<&'static [u8]> {
+    let opts = match tracks {
+        Some(tracks) => tracks.opts,
+        None => Opts::All,
+    };
+    match (opts, is_yes) {
+        (Opts::In, true) | (Opts::Out, false) => None,
+        (Opts::In, false) => Some(b"-ERR CLIENT CACHING NO needs OPTOUT\r\n"),
+        (Opts::Out, true) => Some(b"-ERR CLIENT CACHING YES needs OPTIN\r\n"),
+        (Opts::All, _) => Some(b"-ERR CLIENT CACHING needs OPTIN or OPTOUT\r\n"),
+    }
+}
+
+// Whether the last request of a connection is a CLIENT CACHING that was not refused.
+fn is_marked(id: u64, past: &[Entry]) -> bool {
+    let mut before = past.len();
+    for entry in past.iter().rev() {
+        before = before.saturating_sub(1);
+        if let Entry::Run { id: by, words, .. } = entry {
+            if *by == id {
+                return match request_of(words) {
+                    Request::Mark(is_yes) => {
+                        mark_fault(is_yes, tracks(id, &past[..before])).is_none()
+                    }
+                    _ => false,
+                };
             }
         }
     }
     false
+}
+
+// Whether a key that a connection reads behind those entries is remembered for it.
+fn remembers(id: u64, past: &[Entry]) -> bool {
+    match tracks(id, past) {
+        None => false,
+        Some(tracks) => match tracks.opts {
+            Opts::All => true,
+            Opts::In => is_marked(id, past),
+            Opts::Out => !is_marked(id, past),
+        },
+    }
+}
+
+fn has_noloop(id: u64, past: &[Entry]) -> bool {
+    match tracks(id, past) {
+        Some(tracks) => tracks.noloop,
+        None => false,
+    }
+}
+
+/// Whether a connection said QUIT.
+pub fn has_quit(id: u64, past: &[Entry]) -> bool {
+    past.iter().any(|entry| match entry {
+        Entry::Run { id: by, words, .. } => *by == id && matches!(request_of(words), Request::Quit),
+        _ => false,
+    })
 }
 
 // The value that the last SET of the key wrote, where there is one.
@@ -161,7 +287,12 @@ fn put_reply(id: u64, words: &Words, past: &[Entry], out: &mut Vec<u8>) -> Resul
             (None, Proto::Two) => b"$-1\r\n",
             (None, Proto::Three) => b"_\r\n",
         },
-        Request::Set(_, _) | Request::Track(_) => b"+OK\r\n",
+        Request::Track(asked) if switches(tracks(id, past), asked) => {
+            b"-ERR OPTIN and OPTOUT can't be switched while tracking is on\r\n"
+        }
+        Request::Set(_, _) | Request::Track(_) | Request::Quit => b"+OK\r\n",
+        Request::Mark(is_yes) => mark_fault(is_yes, tracks(id, past)).unwrap_or(b"+OK\r\n"),
+        Request::Ping => b"+PONG\r\n",
         Request::Hello(asked) => return put_greeting(asked.unwrap_or(proto), id, out),
         Request::Wrong(text) => text,
     };
@@ -213,12 +344,12 @@ fn run_rows(
     rows: &mut Vec<Row>,
 ) -> Result<(), NoMemory> {
     match request_of(words) {
-        Request::Get(key) if tracks(by, past) => remember(alloc, by, key, rows),
+        Request::Get(key) if remembers(by, past) => remember(alloc, by, key, rows),
         Request::Set(key, _) => {
             rows.retain(|row| row.key.as_slice() != key);
             Ok(())
         }
-        Request::Track(false) => {
+        Request::Track(None) | Request::Quit => {
             let_go(by, rows);
             Ok(())
         }
@@ -276,6 +407,10 @@ impl Listener {
         Ok(())
     }
 
+    fn hear_end(&mut self, past: &[Entry]) -> Result<(), NoMemory> {
+        self.push(past.len().saturating_add(1), Vec::new(self.alloc))
+    }
+
     // The reply to its own request.
     fn hear_reply(&mut self, words: &Words, past: &[Entry]) -> Result<(), NoMemory> {
         let mut bytes = Vec::new(self.alloc);
@@ -291,7 +426,9 @@ impl Listener {
         past: &[Entry],
         told: &mut Vec<u8>,
     ) -> Result<(), NoMemory> {
-        tell_written(self.id, words, self.rows.as_slice(), told)?;
+        if by != self.id || !has_noloop(by, past) {
+            tell_written(self.id, words, self.rows.as_slice(), told)?;
+        }
         run_rows(self.alloc, past, by, words, &mut self.rows)?;
         drop_first(self.table_max, self.id, &mut self.rows, told)
     }
@@ -318,12 +455,16 @@ impl Listener {
                 if *id == self.id {
                     self.hear_reply(words, past)?;
                 }
-                self.hear_told(*id, words, past, matches!(proto, Proto::Three))
+                self.hear_told(*id, words, past, matches!(proto, Proto::Three))?;
+                if *id == self.id && matches!(request_of(words), Request::Quit) {
+                    return self.hear_end(past);
+                }
+                Ok(())
             }
             Entry::Close { id } => {
                 let_go(*id, &mut self.rows);
-                if *id == self.id {
-                    return self.push(past.len().saturating_add(1), Vec::new(self.alloc));
+                if *id == self.id && !has_quit(*id, past) {
+                    return self.hear_end(past);
                 }
                 Ok(())
             }

@@ -84,6 +84,70 @@ do x SET k 1;ask y GET k;flow;show x;show y;ask x GET k;ask y GET k;flow;show x;
 do y SET k 2;ask x GET k;flow y.data;ask x GET k;show x;show y;flow;show x;show y
 client x single 3 default 2;raw w;flow;ask x GET k;flow;ask x GET k;ask x get k;\
 ask x GET j;flow;show x;ask x GET i;flow;show x;say w SET k 1;flow;show x
+raw r;say r HELLO 3;say r CLIENT TRACKING ON NOLOOP;say r GET k;say r SET k 1;say r GET k;flow r;\
+raw w;say w SET k 2;flow w;flow r;say r GET k;say r CLIENT TRACKING ON;say r SET k 3;flow r
+raw r;say r HELLO 3;say r CLIENT TRACKING ON OPTIN;say r CLIENT CACHING YES;say r PING;\
+say r GET k;flow r;raw w;say w SET k 1;flow w;flow r
+raw r;raw w;say r HELLO 3;say r CLIENT TRACKING ON OPTIN;say r GET a;say r CLIENT CACHING YES;\
+say r GET b;say r GET c;say r CLIENT CACHING NO;say r CLIENT CACHING YES;\
+say r CLIENT CACHING YES;say r GET d;say r CLIENT CACHING YES;say r NOPE;say r GET e;flow;\
+say w SET a 1;say w SET b 1;say w SET c 1;say w SET d 1;say w SET e 1;flow;flow
+raw r;raw w;say r HELLO 3;say r CLIENT TRACKING ON OPTOUT NOLOOP;say r GET a;\
+say r CLIENT CACHING NO;say r GET b;say r GET c;say r CLIENT CACHING YES;say r GET d;\
+say r CLIENT CACHING NO;say r SET c 1;say r GET e;flow;say w SET a 1;say w SET b 1;\
+say w SET c 2;say w SET d 1;say w SET e 1;flow;flow
+raw r;raw w;say r CLIENT CACHING YES;say r HELLO 3;say r CLIENT TRACKING ON;\
+say r CLIENT CACHING NO;say r CLIENT TRACKING ON OPTIN;say r CLIENT TRACKING ON OPTOUT;\
+say r CLIENT CACHING YES;say r CLIENT TRACKING ON OPTOUT;say r GET a;\
+say r CLIENT CACHING YES;say r CLIENT TRACKING ON;say r GET b;say r CLIENT TRACKING ON OPTOUT;\
+say r CLIENT CACHING NO;say r CLIENT TRACKING OFF;say r GET c;flow;say w SET a 1;say w SET b 1;\
+say w SET c 1;flow;flow
+raw r;say r QUIT;flow r;say r PING;serve r 14
+raw r;raw w;say r HELLO 3;say r CLIENT TRACKING ON;say r GET k;say r QUIT;say r GET j;serve r;\
+say w SET k 1;flow w;send r 20;recv r 9;recv r;send r;recv r 1;recv r;recv r;say r PING;flow r;\
+cut r;flow
+raw r;say r SET k 1;say r QUIT;say r SET k 2;serve r;send r 5;recv r;send r 4;recv r;send r 1;\
+recv r;serve r;raw s;say s GET k;flow
+raw r;say r QUIT;serve r;send r 6
+raw r;say r QUIT;flow r;send r 1
+raw r;say r QUIT;flow r;serve r 1
+raw r;say r QUIT;flow r;bytes r *x\\r\\nPING\\r\\n;serve r;serve r;flow;cut r;flow
+raw r;say r QUIT;serve r;cut r;serve r;send r;flow
+raw r;say r QUIT;say r QUIT;say r PING;flow r;flow r;cut r;serve r 1
+raw r;bytes r QUIT\\r\\nGET\\sa\\r\\nGE;serve r;bytes r T\\sb\\r\\n;flow r;flow
+raw r;raw s;say s QUIT;flow;say r SET a 1;flow;cut s;flow;flow
+client x single 3 optin 9;raw w;flow;ask x GET k;flow;ask x GET k;show x;say w SET k 1;flow w;\
+ask x GET k;flow x.data;ask x GET k;show x;flow;ask x GET k;poll x 4;poll x 6;poll x 5
+client x single 3 optin 9;raw w;flow;do x GET k;ask x GET j;flow;say w SET k 1;say w SET j 2;\
+flow;flow;show x;poll x 3;poll x 4
+client x single 3 optin 9;raw w;flow;ask x GET k;out x.data;serve x.data 38;say w SET k 1;flow w;\
+serve x.data;say w SET k 2;flow w;send x.data;recv x.data;show x;ask x GET k;flow;ask x GET k
+client x single 3 optin 2;flow;ask x GET a;ask x GET b;ask x GET a;do x SET b 1;flow;show x;\
+ask x GET b;ask x GET c;flow;show x;ask x GET a
+client x single 3 optin 9 noloop;raw w;flow;ask x GET k;flow;do x SET k 1;show x;ask x GET k;flow;\
+ask x GET k;say w SET k 2;flow;flow;show x
+client x single 3 optout 9;raw w;flow;ask x GET k;do x GET j;flow;ask x GET k;do x GET k;flow;\
+say w SET k 1;say w SET j 1;flow;flow;show x;ask x GET j;flow;show x;poll x 5;poll x 4
+client x single 3 optout 9;flow;do x SET k 1;do x GET k;do x NOPE;do x GET;ask x GET k;flow;\
+poll x 3;poll x 5;poll x 6;poll x 7;poll x 8;show x;poll x 4
+client x single 3 optout 1 noloop;raw w;flow;ask x GET a;do x SET a 1;ask x GET b;flow;show x;\
+do x SET b 2;ask x GET a;flow;show x;say w SET a 3;flow;ask x GET a;flow;show x
+client x single 3 default 9 noloop;raw w;flow;ask x GET k;out x.data;serve x.data;do x SET k 2;\
+send x.data;recv x.data;show x;ask x GET k;flow;show x;ask x GET k;do x SET k 3;ask x GET k;\
+say w SET k 4;flow;flow;show x
+client x single 3 default 9 noloop;client y single 3 optin 9 noloop;client z single 3 optout 9;\
+flow;ask x GET k;ask y GET k;ask z GET k;flow;do x SET k 1;flow;show x;show y;show z;ask x GET k;\
+ask y GET k;ask z GET k;flow;do y SET k 2;do z SET k 3;flow;flow;show x;show y;show z
+client x single 3 optin 9;flow;ask x GET k;out x.data 50;serve x.data;cut x.data;flow;ask x GET k;\
+show x
+client x single 3 optin 9;flow;do x CLIENT CACHING YES
+client x single 3 optin 9;flow;do x QUIT
+client x single 3 optin 9;flow;ask x GET k;poll x 3
+client x single 3 bcast 9
+client x single 3 bcast 9 noloop prefix k
+client x pair 3 optin 9
+client x pair 2 default 9
+client x single 3 optout 9;client x single 3 optin 9
 client x single 3 default 9;say x GET a
 client x single 3 default 9;flow x
 client x single 3 default 9;client x single 3 default 9
@@ -104,4 +168,8 @@ client x single 3 default 9;client y single 3 default 9;flow;ask x GET a;ask y G
 ask y GET b;flow y.data;show x;show y;ask x GET a;flow;show x;show y
 raw a;raw b;say a HELLO 3;say a CLIENT TRACKING ON;say b HELLO 3;say b CLIENT TRACKING ON;\
 say a GET k;say b GET k;say a GET j;say a SET k 1;say b SET j 2;flow;flow
+client x single 3 optin 9;client y single 3 optout 9 noloop;flow;ask x GET a;do x GET b;\
+ask y GET c;do y GET d;flow;flow;show x;show y;ask x GET a;ask y GET a;flow;flow;show x;show y
+raw a;raw b;say a HELLO 3;say a CLIENT TRACKING ON NOLOOP;say a GET k;say a QUIT;say b HELLO 3;\
+say b CLIENT TRACKING ON;say b GET j;say b GET k;flow;flow
 ";

@@ -166,7 +166,7 @@ fn is_printed(alloc: Global, limits: Limits, block: &str) -> Result<bool, NoMemo
     Ok(fault == number && is_text(text.as_slice(), want))
 }
 
-fn prints<R: Abort>(rt: &R, alloc: Global, table: &str) -> Result<(), Fail> {
+pub fn prints<R: Abort>(rt: &R, alloc: Global, table: &str) -> Result<(), Fail> {
     for block in table.split("\n\n") {
         assert!(rt; is_printed(alloc, LIMITS, block)?, "{block}");
     }
@@ -413,9 +413,11 @@ const REFUSED: &str = "\
 
 5 client x pair 3 default 1
 
-5 client x single 3 optin 1
+5 client x pair 2 optin 1
 
-5 client x single 3 default 1 noloop";
+5 client x single 3 bcast 1
+
+5 client x single 3 bcast 1 noloop prefix k";
 
 #[test]
 fn an_event_that_is_refused_prints_nothing(rt: HostRuntime) -> Result<(), Fail> {

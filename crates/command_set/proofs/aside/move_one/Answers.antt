@@ -7,5 +7,5 @@ use Rattle.command_set.proofs.aside.move_one.Goals as goal
 pub returns-clause-back : goal.returns-clause-back
 returns-clause-back c =
     one_aside (priors_of c.args.aside.now.items) (priors_of c.push_reserved.new.self.items)
-    c.args.key.now c.args.space.now c.hollow-held.new.space (grind (arith, common_steps))
+    c.args.key.now c.args.space.now c.hollow-held.new.self (grind (arith, common_steps))
     (grind arith)

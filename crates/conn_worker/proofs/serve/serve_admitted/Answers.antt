@@ -1,12 +1,12 @@
 use Rattle.seat_turns.proofs.Growing.{grows_none}
 use Rattle.edge_links.proofs.Bytes.{consumes_none, appends_none}
 use Rattle.resp_stream.proofs.Onward.{requests_begun, no_requests}
-use Rattle.std.proofs.Common.{sym, ap, ◌∙◌, arith}
+use Rattle.std.proofs.Common.{sym, ap, subst, ◌∙◌, arith}
 use Rattle.edge_links.specs.declared.counts.Counts.{Counts}
-use Rattle.conn_worker.specs.Visits.{fault_of, front_of, standing}
-use Rattle.conn_worker.specs.Rounds.{Start}
+use Rattle.conn_worker.specs.Visits.{EndCounts, Works, stop_of, front_of, standing}
+use Rattle.conn_worker.specs.Rounds.{Serves, Start}
 use Rattle.conn_worker.proofs.Serving.{Begun, hears_begins, hears_stops, delivered_serves}
-use Rattle.conn_worker.proofs.Serving.{delivered_ends, delivery_stops, part_counts}
+use Rattle.conn_worker.proofs.Serving.{delivered_ends, delivery_stops, part_counts, stop_counts}
 use Rattle.conn_worker.proofs.Rounding.{Halfway, hears_halfway, hears_last, delivered_rounds}
 use Rattle.conn_worker.proofs.Rounding.{delivered_last, undelivered_last, begins_here}
 use Rattle.conn_worker.proofs.serve.serve_admitted.Goals as goal
@@ -39,7 +39,7 @@ returns-in-Err-clause-counts g c = grind arith
 
 -- what was heard, with what of the rest was asked for
 begun : (g : given.Over) → (c : goal.In-Ok g)
-    → Begun (g.C.Clock.moment c.args.clock.now) c.args.connection.now.id (fault_of c.in-Ok.heard)
+    → Begun (g.C.Clock.moment c.args.clock.now) c.args.connection.now.id (stop_of c.in-Ok.heard)
     (front_of c.in-Ok.heard) c.hear_once-heard.new.connection (g.L.Link.left c.args.link.now)
     (g.L.Link.left c.hear_once-heard.new.link) (g.L.Link.contents c.args.link.now)
     (g.L.Link.contents c.hear_once-heard.new.link) c.args.seat.now c.hear_once-heard.new.seat
@@ -56,7 +56,7 @@ begun g c =
 
 -- the same, round by round
 halfway : (g : given.Over) → (c : goal.In-Ok g)
-    → Halfway (g.C.Clock.moment c.args.clock.now) c.args.connection.now.id (fault_of c.in-Ok.heard)
+    → Halfway (g.C.Clock.moment c.args.clock.now) c.args.connection.now.id (stop_of c.in-Ok.heard)
     (front_of c.in-Ok.heard) c.hear_once-heard.new.connection
     (standing (g.L.Link.left c.args.link.now) (g.L.Link.contents c.args.link.now)
     (g.L.Link.counts c.args.link.now) c.args.seat.now)
@@ -83,7 +83,7 @@ pub returns-in-Err-deliver_from-clause-works : goal.returns-in-Err-deliver_from-
 returns-in-Err-deliver_from-clause-works g c =
     let b = begun g (goal.at.returns-in-Err-deliver_from-clause-works g c).In-Ok in
     delivery_stops (g.C.Clock.moment c.args.clock.now) c.args.connection.now.id
-    (fault_of c.in-Ok.heard)
+    (stop_of c.in-Ok.heard)
     c.hear_once-heard.new.connection (g.L.Link.left c.args.link.now)
     (g.L.Link.left c.hear_once-heard.new.link) (g.L.Link.contents c.args.link.now)
     (g.L.Link.contents c.hear_once-heard.new.link) c.args.seat.now b.middle b.waits
@@ -104,26 +104,45 @@ returns-in-Err-deliver_from-clause-rounds g c =
     (begins_here _ _ _ _ _ _ _ h _ c.behind.ensures.1))
     c.in-Err-deliver_from.ensures.counts
 
-pub returns-in-Some-fault-clause-works : goal.returns-in-Some-fault-clause-works
-returns-in-Some-fault-clause-works g c =
-    let b = begun g (goal.at.returns-in-Some-fault-clause-works g c).In-Ok in
-    delivered_ends (g.C.Clock.moment c.args.clock.now) c.args.connection.now.id
-    (fault_of c.in-Ok.heard)
+pub returns-in-Some-stop-clause-works : goal.returns-in-Some-stop-clause-works
+returns-in-Some-stop-clause-works g c =
+    let b = begun g (goal.at.returns-in-Some-stop-clause-works g c).In-Ok in
+    subst (λ e. Works (g.C.Clock.moment c.args.clock.now) e c.args.connection.now.id
+    c.hear_once-heard.new.connection.requests (g.L.Link.left c.args.link.now)
+    (g.L.Link.left c.deliver_from.new.link) (g.L.Link.contents c.args.link.now)
+    (g.L.Link.contents c.deliver_from.new.link) c.args.seat.now c.deliver_from.new.seat)
+    (sym c.ended.ensures)
+    (delivered_ends (g.C.Clock.moment c.args.clock.now) c.args.connection.now.id
+    (stop_of c.in-Ok.heard)
     c.hear_once-heard.new.connection (g.L.Link.left c.args.link.now)
     (g.L.Link.left c.hear_once-heard.new.link) (g.L.Link.contents c.args.link.now)
     (g.L.Link.contents c.hear_once-heard.new.link) c.args.seat.now b.middle b.waits
     (g.L.Link.left c.deliver_from.new.link) (g.L.Link.contents c.deliver_from.new.link)
     c.in-Ok-deliver_from.ensures.unread c.deliver_from.new.seat
     (grind arith)
-    c.in-Some-fault.fault (sym c.behind.ensures.0 ∙ c.in-Some-fault.is)
+    c.in-Some-stop.stop (sym c.behind.ensures.0 ∙ c.in-Some-stop.is))
 
-pub returns-in-Some-fault-clause-rounds : goal.returns-in-Some-fault-clause-rounds
-returns-in-Some-fault-clause-rounds g c =
-    let h = halfway g (goal.at.returns-in-Some-fault-clause-rounds g c).In-Ok in
-    delivered_last _ _ _ _ _ _ _ h _ c.in-Ok-deliver_from.ensures.unread c.in-Some-fault.fault
-    (sym c.behind.ensures.0 ∙ c.in-Some-fault.is)
+pub returns-in-Some-stop-clause-counts : goal.returns-in-Some-stop-clause-counts
+returns-in-Some-stop-clause-counts g c =
+    let same = c.in-Ok-deliver_from.ensures.counts in
+    subst (λ e. EndCounts e (g.L.Link.counts c.args.link.now)
+    (g.L.Link.counts c.deliver_from.new.link)) (sym c.ended.ensures)
+    (stop_counts c.in-Some-stop.stop _ _
+    (ap (λ (k : Counts). k.faults) same ∙ (c.in-Ok.ensures.counts.0 ∙ c.loop.invariant.3))
+    (ap (λ (k : Counts). k.ends) same ∙ (c.in-Ok.ensures.counts.1 ∙ c.loop.invariant.4)))
+
+pub returns-in-Some-stop-clause-rounds : goal.returns-in-Some-stop-clause-rounds
+returns-in-Some-stop-clause-rounds g c =
+    let h = halfway g (goal.at.returns-in-Some-stop-clause-rounds g c).In-Ok in
+    subst (λ e. Serves (g.C.Clock.moment c.args.clock.now) e c.args.connection.now.id
+    (standing (g.L.Link.left c.args.link.now) (g.L.Link.contents c.args.link.now)
+    (g.L.Link.counts c.args.link.now) c.args.seat.now)
+    (standing (g.L.Link.left c.deliver_from.new.link) (g.L.Link.contents c.deliver_from.new.link)
+    (g.L.Link.counts c.deliver_from.new.link) c.deliver_from.new.seat)) (sym c.ended.ensures)
+    (delivered_last _ _ _ _ _ _ _ h _ c.in-Ok-deliver_from.ensures.unread c.in-Some-stop.stop
+    (sym c.behind.ensures.0 ∙ c.in-Some-stop.is)
     (c.in-Ok-deliver_from.ensures.ok h.middle
-    (begins_here _ _ _ _ _ _ _ h _ c.behind.ensures.1)) c.in-Ok-deliver_from.ensures.counts
+    (begins_here _ _ _ _ _ _ _ h _ c.behind.ensures.1)) c.in-Ok-deliver_from.ensures.counts)
 
 pub loop-preserved : goal.loop-preserved
 loop-preserved g c =
@@ -133,18 +152,18 @@ loop-preserved g c =
       tt,
       tt,
       delivered_serves (g.C.Clock.moment c.args.clock.now) c.args.connection.now.id
-          (fault_of c.in-Ok.heard)
+          (stop_of c.in-Ok.heard)
           c.hear_once-heard.new.connection (g.L.Link.left c.args.link.now)
           (g.L.Link.left c.hear_once-heard.new.link) (g.L.Link.contents c.args.link.now)
           (g.L.Link.contents c.hear_once-heard.new.link) c.args.seat.now b.middle b.waits
           (g.L.Link.left c.deliver_from.new.link) (g.L.Link.contents c.deliver_from.new.link)
           c.in-Ok-deliver_from.ensures.unread c.deliver_from.new.seat
           (grind arith)
-          (sym c.behind.ensures.0 ∙ c.in-None-fault.is),
+          (sym c.behind.ensures.0 ∙ c.in-None-stop.is),
       ap (λ (k : Counts). k.faults) same ∙ (c.in-Ok.ensures.counts.0 ∙ c.loop.invariant.3),
       ap (λ (k : Counts). k.ends) same ∙ (c.in-Ok.ensures.counts.1 ∙ c.loop.invariant.4),
       delivered_rounds _ _ _ _ _ _ _ h _ c.in-Ok-deliver_from.ensures.unread
-          (sym c.behind.ensures.0 ∙ c.in-None-fault.is)
+          (sym c.behind.ensures.0 ∙ c.in-None-stop.is)
           (c.in-Ok-deliver_from.ensures.ok h.middle
           (begins_here _ _ _ _ _ _ _ h _ c.behind.ensures.1)) same,
       c.hear_once-heard.ensures.buffer ∙ c.loop.invariant.6,

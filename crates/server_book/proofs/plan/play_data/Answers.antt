@@ -10,5 +10,5 @@ returns c =
     let ran = c.in_ok-expired.ensures in
     λ words. data_played _ (runner c.args.by.id c.args.mode.now) words c.args.command.now
     c.args.space.now c.run_due.new.self c.args.moment turned.done.signalled c.in_ok-reads.reads
-    c.requires.row c.requires.plain c.in_ok-reads.ensures ran.expired ran.turn.0 ran.turn.1
+    c.requires.row c.in_ok-reads.ensures ran.expired ran.turn.0 ran.turn.1
     ran.turn.2 c.deed_of-deed.ensures (ap (λ (p : Peer). p.proto) c.peer.ensures) ran.undo

@@ -1,13 +1,13 @@
 use Rattle.server_book.proofs.Sendings.{before_sendings, on_err}
-use Rattle.server_book.proofs.Groups.{so_far_there, told_more}
-use Rattle.std.proofs.Common.{ap, ◌∙◌, arith, length, ◌<◌}
+use Rattle.server_book.proofs.Groups.{rows_there, told_more}
+use Rattle.std.proofs.Common.{ap, ◌∙◌, arith, length, ◌<◌, None}
 use Rattle.std.proofs.lemmas.List.{get_or_read, take_all}
 use Rattle.track_table.specs.declared.table.Held.{Held}
 use Rattle.track_table.specs.Places.{nobody}
 use Rattle.server_book.proofs.stores.tell_rows.Goals as goal
 
 pub returns-in_err-tell-clause-back : goal.returns-in_err-tell-clause-back
-returns-in_err-tell-clause-back c = grind (arith, on_err, before_sendings, so_far_there)
+returns-in_err-tell-clause-back c = grind (arith, on_err, before_sendings, rows_there)
 
 pub loop-place-preserved : goal.loop-place-preserved
 loop-place-preserved c =
@@ -15,7 +15,7 @@ loop-place-preserved c =
     let k = c.loop-place.place in
     let lt : k < length rows = omega (arith, c.loop-place-test.true) in
     let row = get_or_read rows k c.index-rows-place.result lt c.index-rows-place.is nobody in
-    told_more c.args.entry c.args.connections.now c.loop-place.connections rows k
+    told_more c.args.entry None c.args.connections.now c.loop-place.connections rows k
     c.key.result.now c.holders.result.now c.tell.new.self c.loop-place.invariant lt
     (c.key.ensures ∙ ap (λ (r : Held). r.key) row)
     (c.holders.ensures ∙ ap (λ (r : Held). r.holders) row)

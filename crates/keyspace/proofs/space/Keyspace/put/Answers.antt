@@ -1,13 +1,24 @@
-use Rattle.std.proofs.Common.{◌∙◌}
-use Rattle.std.specs.FinMap.{insert}
+use Rattle.std.proofs.Common.{ap, map, refl, subst, ◌∙◌}
+use Rattle.std.specs.FinMap.{from_entries, insert}
+use Rattle.std.specs.Option.{IsSome}
 use Rattle.keyspace.specs.Plain.{held_of}
-use Rattle.keyspace.proofs.Keyed.{put-seen}
+use Rattle.keyspace.proofs.Keyed.{put-seen, seen}
 use Rattle.keyspace.proofs.space.Keyspace.put.Goals as goal
 
-pub returns-clause-ok : goal.returns-clause-ok
-returns-clause-ok c =
+pub returns-in-Some-clause-ok : goal.returns-in-Some-clause-ok
+returns-in-Some-clause-ok c =
+    let key = c.args.key.now in
     let held = c.args.held in
-    let name = c.in_ok-name.name.items in
-    let put = c.in_ok-insert.ensures.updates in
-    put-seen held_of name c.self.inside.table c.insert.new.self held put
-    ∙ (λ i. insert (c.self.view_is i) (c.in_ok-name.ensures.items i) (held_of held))
+    let has = subst IsSome c.in-Some.ensures.value refl in
+    put-seen held_of key c.self.inside.table (c.get_mut.follows.lender held) held
+    ((c.get_mut.follows.holds held).3 has)
+    ∙ ap (λ m. insert m key (held_of held)) c.self.view_is
+
+pub returns-in_ok-insert-in-None-clause-ok : goal.returns-in_ok-insert-in-None-clause-ok
+returns-in_ok-insert-in-None-clause-ok c =
+    let name = c.in_ok-name-in-None.name.items in
+    let old = c.get_mut.follows.lender-at-none in
+    let view = ap (λ m. from_entries (map (seen held_of) m.entries)) c.get_mut.follows.holds-at-none
+    ∙ c.self.view_is in
+    put-seen held_of name old c.insert.new.self c.args.held c.in_ok-insert-in-None.ensures.updates
+    ∙ (λ i. insert (view i) (c.in_ok-name-in-None.ensures.items i) (held_of c.args.held))

@@ -9,7 +9,7 @@ use Rattle.server_book.specs.BookState.{BookState, IsAccepted, Agrees, HasRoom}
 use Rattle.server_book.specs.Connections.{ConnectionsState}
 use Rattle.server_book.proofs.Remembered.{same_table}
 use Rattle.server_book.proofs.BookTurns.{is_id, open_at, is_turn, agrees_close, room_close}
-use Rattle.server_book.proofs.BookTurns.{close_turned, posted_close, runs_reads, table_close}
+use Rattle.server_book.proofs.BookTurns.{close_turned, posted_close, reads_there, table_close}
 use Rattle.server_book.proofs.BookTurns.{effect_close, kept_of}
 use Rattle.server_book.proofs.book.Book.close.Goals as goal
 
@@ -42,7 +42,7 @@ invariant_of-self c =
           (sym c.close.ensures)
           (room_close i.log.closable c.push.new.self.closable id cs c.self.invariant.room
           (is_id i.limits past i.stores.space keys cs k id
-          (runs_reads i.limits past i.stores.space keys cs k id on))
+          (reads_there i.limits past i.stores.space keys cs k id on))
           (open_at i.limits past i.stores.space keys cs k id on) c.push.ensures.closable);
     }
 
@@ -58,7 +58,7 @@ returns c =
     let on = subst (λ (b : BookState). IsAccepted b.limits b.past (Close id)) (sym c.self.view_is)
     c.requires.accepted in
     let kept = kept_of l past i.stores.space i.stores.table cs k id
-    (runs_reads l past i.stores.space i.stores.table cs k id on) in
+    (reads_there l past i.stores.space i.stores.table cs k id on) in
     is_turn c.args.self.now l past c.push.new.self.past i.stores.connections.posts
     c.close.new.self.posts i.effect _ (entry.Close id) (Close id) _ c.self.view_is tt
     c.push.ensures.past (close_turned l past id n on c.next-entry.ensures)

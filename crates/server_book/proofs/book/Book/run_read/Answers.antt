@@ -6,7 +6,7 @@ use Rattle.serial_model.specs.History.{state}
 use Rattle.serial_model.specs.Plain.{IsPlainMode}
 use Rattle.serial_model.proofs.DueKeys.{due_apart}
 use Rattle.serial_model.proofs.PlainActions.{states_are_plain}
-use Rattle.serial_model.proofs.StateSteps.{run_stands}
+use Rattle.serial_model.proofs.Streams.{keeps_run}
 use Rattle.server_book.specs.BookState.{Agrees, BookState, HasRoom, IsAccepted}
 use Rattle.server_book.specs.Connections.{ConnectionsState, IsOpen}
 use Rattle.server_book.specs.Plans.{kept_by}
@@ -76,7 +76,7 @@ settle-signalled-requires c =
     let mode = c.mode.result.now in
     let who : mode ≡ (state l past).modes id = c.mode.ensures
     ∙ mode_of l past space keys cs k id acc in
-    let runs = plan_runs l p words space c.play.new.space m past id mode
+    let runs = plan_runs l past words m id p space c.play.new.space mode
     c.in_ok-expired.ensures who k.space_is in
     let gone = c.as_slice.result.now in
     let gone_is = c.as_slice.ensures ∙ runs.0 in
@@ -85,8 +85,8 @@ settle-signalled-requires c =
     let sent = c.in-Ok.ensures.sent
     ∙ ap (λ ps. run_sendings n id gone plan keys (record { items = cs; posts = ps })) none in
     subst (λ (s : ConnectionsState). IsOpen s.items id) (sym sent)
-    (on_after l past space keys cs k m gone gone_is n id words acc plan number runs.1 runs.3
-    runs.4 runs.5 runs.6)
+    (on_after l past space keys cs k m gone gone_is n id words acc plan number runs.1 runs.3 runs.4
+    runs.5 runs.6 runs.7)
 
 pub invariant_of-self-2 : goal.invariant_of-self-2
 invariant_of-self-2 c =
@@ -111,7 +111,7 @@ invariant_of-self-2 c =
     let mode = c.mode.result.now in
     let who : mode ≡ (state l past).modes id = c.mode.ensures
     ∙ mode_of l past space keys cs k id acc in
-    let runs = plan_runs l p words space c.play.new.space m past id mode
+    let runs = plan_runs l past words m id p space c.play.new.space mode
     c.in_ok-expired.ensures who k.space_is in
     let gone = c.as_slice.result.now in
     let gone_is = c.as_slice.ensures ∙ runs.0 in
@@ -128,8 +128,8 @@ invariant_of-self-2 c =
     (record keys {
       rows = kept_by keys.limit id plan.deed (without_keys gone keys.rows);
     }) s.items) (sym final)
-    (agrees_run l past space keys cs k m gone gone_is n id words acc plan number runs.1
-    runs.3 runs.4 runs.5 runs.6 new.space
+    (agrees_run l past space keys cs k m gone gone_is n id words acc plan number runs.1 runs.3
+    runs.4 runs.5 runs.6 runs.7 new.space
     (omega (arith, c.max-moment.ensures, c.moment.ensures))
     (c.settle-signalled.ensures.space ∙ c.in-Ok.ensures.space ∙ runs.2))) in
     record {
@@ -142,7 +142,7 @@ invariant_of-self-2 c =
           new.connections.items agreed
           (ap (λ (s : ConnectionsState). length s.items) final
           ∙ length_final l past space keys cs k m gone gone_is n id words acc plan number runs.1
-          runs.3 runs.4 runs.5 runs.6) (λ other. run_stands l past other id m words)
+          runs.3 runs.4 runs.5 runs.6 runs.7) (λ other. keeps_run l past other id m words)
           c.self.invariant.room);
     }
 
@@ -169,7 +169,7 @@ returns-clause-ok c =
     let mode = c.mode.result.now in
     let who : mode ≡ (state l past).modes id = c.mode.ensures
     ∙ mode_of l past space keys cs k id acc in
-    let runs = plan_runs l p words space c.play.new.space m past id mode
+    let runs = plan_runs l past words m id p space c.play.new.space mode
     c.in_ok-expired.ensures who k.space_is in
     let gone = c.as_slice.result.now in
     let gone_is = c.as_slice.ensures ∙ runs.0 in
@@ -184,5 +184,5 @@ returns-clause-ok c =
     c.self.view_is m (c.max-moment.ensures ∙ ap (max c.args.now) c.moment.ensures) grown acc
     (ap (λ (s : ConnectionsState). s.posts) final
     ∙ posted_run l past space keys cs k m gone gone_is n id words acc plan number runs.1 runs.3
-    runs.4 runs.5 runs.6)
+    runs.4 runs.5 runs.6 runs.7)
     number runs.0 runs.1 (c.settle-signalled.ensures.signalled ∙ runs.3)

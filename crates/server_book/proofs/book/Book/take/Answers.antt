@@ -7,7 +7,7 @@ use Rattle.server_book.specs.BookState.{BookState, HasRoom, IsAccepted, Agrees}
 use Rattle.server_book.specs.Connections.{ConnectionsState}
 use Rattle.server_book.specs.Places.{Connection}
 use Rattle.server_book.proofs.BookTurns.{kept_of, is_turn, agrees_take, room_kept, take_turned}
-use Rattle.server_book.proofs.BookTurns.{effect_take, posted_take, runs_gives, take_stands}
+use Rattle.server_book.proofs.BookTurns.{effect_take, posted_take, gives_there, take_stands}
 use Rattle.server_book.proofs.Refusals.{take_some, takes_some}
 use Rattle.server_book.proofs.book.Book.take.Goals as goal
 
@@ -54,7 +54,7 @@ returns-clause-ok c =
     let acc = subst (λ (b : BookState). IsAccepted b.limits b.past (Take id most))
     (sym c.self.view_is) c.requires.accepted in
     let kept = kept_of l past i.stores.space i.stores.table cs k id
-    (runs_gives l past i.stores.space i.stores.table cs k id acc.0) in
+    (gives_there l past i.stores.space i.stores.table cs k id acc.0) in
     let given : c.in_ok-bytes.bytes ≡ take most (unsent l id past) = c.in_ok-bytes.ensures
     ∙ ap (λ (x : Connection). take most x.queue) kept in
     let grown = c.push.ensures.past ∙ ap (λ p. e ∷ p) c.reserve.ensures.past in

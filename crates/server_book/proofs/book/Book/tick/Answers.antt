@@ -7,6 +7,7 @@ use Rattle.serial_model.specs.Deadlines.{due_keys}
 use Rattle.track_table.specs.Table.{without_keys}
 use Rattle.serial_model.specs.History.{expired}
 use Rattle.serial_model.specs.Plain.{pushes}
+use Rattle.serial_model.specs.State.{keeps_bytes}
 use Rattle.serial_model.specs.Tracking.{group}
 use Rattle.serial_model.proofs.StateSteps.{tick_stands}
 use Rattle.serial_model.proofs.DueKeys.{due_apart, none_due}
@@ -72,7 +73,8 @@ invariant_of-self-2 c =
           (room_kept l past e i.log.closable space keys cs k c.send_tick.new.self.space
           c.send_tick.new.self.table c.send_tick.new.self.connections.items agreed
           (ap (λ (s : ConnectionsState). length s.items) final
-          ∙ length_told l past space keys cs k m n gone due number) (λ id. tick_stands l past id m)
+          ∙ length_told l past space keys cs k m n gone due number)
+          (λ id. ap keeps_bytes (tick_stands l past id m))
           c.self.invariant.room);
     }
 

@@ -24,8 +24,9 @@ loop-place-preserved c =
     let row = each_at keys rows k lt in record {
       table = c.loop-place.invariant.table;
       space = c.loop-place.invariant.space;
-      told = told_more c.args.entry s.connections c.loop-place.self.connections (each_row keys rows)
-          k key c.holders-holders.result.now c.tell.new.self c.loop-place.invariant.told
+      told = told_more c.args.entry c.args.but s.connections c.loop-place.self.connections
+          (each_row keys rows) k key c.holders-holders.result.now c.tell.new.self
+          c.loop-place.invariant.told
           (omega (arith, lt, each_length keys rows))
           (is ∙ sym (ap (λ (r : Held). r.key) row))
           (c.holders-holders.ensures.list

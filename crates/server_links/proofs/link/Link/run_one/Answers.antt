@@ -1,4 +1,4 @@
-use Rattle.std.proofs.Common.{◌∙◌, subst, arith}
+use Rattle.std.proofs.Common.{◌∙◌, sym, subst, arith}
 use Rattle.std.proofs.lemmas.Result.{err_from_is_err_and}
 use Rattle.serial_model.specs.declared.history.BookCall.TheVariants as call
 use Rattle.script_text.specs.declared.line.Line.TheVariants as line
@@ -6,9 +6,14 @@ use Rattle.server_links.specs.Moves.{turn}
 use Rattle.server_links.specs.Outcome.{Stops}
 use Rattle.server_links.specs.Session.{session, with_past}
 use Rattle.server_links.proofs.Outcomes.{Ends}
-use Rattle.server_links.proofs.Playing.{turn_before, turn_gives, turn_stops, run_line}
+use Rattle.server_links.proofs.Playing.{turn_before, turn_gives, turn_stops, run_line, run_passed}
 use Rattle.server_links.proofs.Playing.{server_turned}
 use Rattle.server_links.proofs.link.Link.run_one.Goals as goal
+
+pub returns-then-not-runs_on : goal.returns-then-not-runs_on
+returns-then-not-runs_on c =
+    run_passed (session c.args.server.now c.args.self.now) c.args.words c.args.lines.now
+    (sym c.runs_on.ensures ∙ c.if-not-runs_on.true)
 
 pub returns-in_err-next_entry : goal.returns-in_err-next_entry
 returns-in_err-next_entry c = grind (arith, err_from_is_err_and, turn_before)
@@ -43,7 +48,7 @@ returns c =
     let words = c.args.words in
     let id = c.args.self.now.id in
     let is = run_line s.limits s.past c.turn.new.self.book.past s.link.id c.in_ok-turn.field-0
-    c.clock-now.result words s.link.name c.requires g.0 in
+    c.clock-now.result words s.link.name (sym c.runs_on.ensures ∙ c.if-not-runs_on.false) g.0 in
     rw (server_turned c.args.server.now c.turn.new.self c.args.self.now c.turn.ensures.limits
     c.turn.ensures.clock)
     (subst (λ n. Ends (turn (call.Run id words n) words s) c.args.lines.now

@@ -1,4 +1,4 @@
-use Rattle.world_run.proofs.WorldCode.{served_mode}
+use Rattle.world_run.proofs.Members.{served_mode}
 use Rattle.world_run.proofs.world.World.fresh_member.Goals as goal
 use Rattle.std.proofs.Common.{arith}
 

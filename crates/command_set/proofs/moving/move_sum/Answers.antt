@@ -1,0 +1,19 @@
+use Rattle.std.proofs.Common.{◌≡◌, ap, subst, option_map, ◌∙◌}
+use Rattle.keyspace.specs.Plain.{held_of}
+use Rattle.command_words.specs.Strings.{incrby_effect}
+use Rattle.string_cmds.specs.Counted.{IsKept}
+use Rattle.command_set.specs.Moving.{changed}
+use Rattle.command_set.proofs.TakenOut.{sum_back}
+use Rattle.command_set.proofs.moving.move_sum.Goals as goal
+
+pub returns-clause-back : goal.returns-clause-back
+returns-clause-back c =
+    let had = option_map (λ held. option_map held_of held) c.in_ok-done.had in
+    let s = c.args.space.now in
+    let t = c.add_number.new.space in
+    sum_back c.args.key.now c.args.number.now had s t _
+    (subst (λ k. IsKept k had s t) c.as_slice.ensures
+    c.in_ok-done.ensures.kept)
+    (subst (λ k. t ≡ (incrby_effect k c.args.number.now s).space) c.as_slice.ensures
+    c.in_ok-done.ensures.space)
+    (c.keep_had.ensures ∙ ap (λ k. changed k had) c.in_ok-name.ensures)

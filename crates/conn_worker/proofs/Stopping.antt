@@ -1,0 +1,179 @@
+-- What runs of requests up to a QUIT, and that a history has a QUIT that ran.
+use Rattle.std.proofs.Common.{◌≡◌, ◌∙◌, ◌⊎◌, refl, sym, ap, ℕ, List, [], ◌∷◌, ◌++◌, Bool, true}
+use Rattle.std.proofs.Common.{false, Some, None, append-nil, eq-eqb, inl, inr}
+use Rattle.std.specs.Prelude.{if◌then◌else◌, Option, ◌==◌, ◌&&◌, ◌||◌, ⊤}
+use Rattle.std.specs.List.{All}
+use Rattle.std.proofs.lemmas.List.Elements.{All-head, All-tail}
+use Rattle.turn_lock.specs.History.{IsPrefix as IsBefore}
+use Rattle.resp_stream.specs.declared.fault.StreamFault.{StreamFault}
+use Rattle.serial_model.specs.declared.history.Entry.{Entry}
+use Rattle.serial_model.specs.declared.history.Entry.TheVariants.{Admit, Run, Tick, Take, Close}
+use Rattle.serial_model.specs.History.{is_quit}
+use Rattle.shared_book.specs.Turns.{Turn}
+use Rattle.shared_book.proofs.Histories.{begins_lift}
+use Rattle.conn_worker.specs.declared.connection.Stop.{Stop}
+use Rattle.conn_worker.specs.declared.connection.Stop.TheVariants.{Quit}
+use Rattle.conn_worker.specs.Quits.{up_to_quit, stop_behind, has_quit}
+use Rattle.conn_worker.specs.Visits.{IsWork, run_in, runs_in}
+
+abbrev pub Requests : Type 0
+Requests = List (List (List ℕ))
+
+-- none of them is a QUIT
+abbrev pub NoQuits : Requests → Type 0
+NoQuits [] = ⊤
+NoQuits (words ∷ requests) = (is_quit words ≡ false) × NoQuits requests
+
+-- ---- by whether the first is a QUIT
+
+until_head : (b : Bool) (words : List (List ℕ)) (rest : Requests) → b ≡ false
+    → words ∷ (if b then [] else rest) ≡ words ∷ rest
+until_head true words rest e = absurd (let no : ⊥ = cc in no)
+until_head false words rest e = refl
+
+until_last : (b : Bool) (words : List (List ℕ)) (rest : Requests) → b ≡ true
+    → words ∷ (if b then [] else rest) ≡ words ∷ []
+until_last true words rest e = refl
+until_last false words rest e = absurd (let no : ⊥ = cc in no)
+
+stop_head : (b : Bool) (s : Option Stop) → b ≡ false → (if b then Some Quit else s) ≡ s
+stop_head true s e = absurd (let no : ⊥ = cc in no)
+stop_head false s e = refl
+
+stop_last : (b : Bool) (s : Option Stop) → b ≡ true → (if b then Some Quit else s) ≡ Some Quit
+stop_last true s e = refl
+stop_last false s e = absurd (let no : ⊥ = cc in no)
+
+head_none : (b : Bool) (s : Option Stop) → (if b then Some Quit else s) ≡ None
+    → (b ≡ false) × (s ≡ None)
+head_none true s e = absurd (let no : ⊥ = cc in no)
+head_none false s e = (refl, e)
+
+-- ---- what is read behind requests of which none is a QUIT
+
+pub until_joined : (ws more : Requests) → NoQuits ws
+    → up_to_quit (ws ++ more) ≡ ws ++ up_to_quit more
+until_joined [] more free = refl
+until_joined (w ∷ ws) more free =
+    until_head (is_quit w) w (up_to_quit (ws ++ more)) free.0
+    ∙ ap (λ z. w ∷ z) (until_joined ws more free.1)
+
+pub stop_joined : (ws more : Requests) (f : Option StreamFault) → NoQuits ws
+    → stop_behind (ws ++ more) f ≡ stop_behind more f
+stop_joined [] more f free = refl
+stop_joined (w ∷ ws) more f free =
+    stop_head (is_quit w) (stop_behind (ws ++ more) f) free.0 ∙ stop_joined ws more f free.1
+
+pub until_all : (ws : Requests) → NoQuits ws → up_to_quit ws ≡ ws
+until_all ws free =
+    ap up_to_quit (sym (append-nil ws)) ∙ until_joined ws [] free ∙ append-nil ws
+
+pub no_quits_more : (ws : Requests) (w : List (List ℕ)) → NoQuits ws → is_quit w ≡ false
+    → NoQuits (ws ++ w ∷ [])
+no_quits_more [] w free e = (e, tt)
+no_quits_more (x ∷ ws) w free e = (free.0, no_quits_more ws w free.1 e)
+
+-- where more is read behind them, they have no QUIT and their bytes no fault
+pub none_stopped : (ws : Requests) (f : Option StreamFault) → stop_behind ws f ≡ None
+    → NoQuits ws × (f ≡ None)
+none_stopped [] None e = (tt, refl)
+none_stopped [] (Some f) e = absurd (let no : ⊥ = cc in no)
+none_stopped (w ∷ ws) f e =
+    let h = head_none (is_quit w) (stop_behind ws f) e in
+    let r = none_stopped ws f h.1 in ((h.0, r.0), r.1)
+
+-- ---- a QUIT
+
+pub until_quit : (w : List (List ℕ)) (more : Requests) → is_quit w ≡ true
+    → up_to_quit (w ∷ more) ≡ w ∷ []
+until_quit w more e = until_last (is_quit w) w (up_to_quit more) e
+
+pub stop_quit : (w : List (List ℕ)) (more : Requests) (f : Option StreamFault)
+    → is_quit w ≡ true → stop_behind (w ∷ more) f ≡ Some Quit
+stop_quit w more f e = stop_last (is_quit w) (stop_behind more f) e
+
+abbrev pub any_quit : Requests → Bool
+any_quit [] = false
+any_quit (w ∷ ws) = is_quit w || any_quit ws
+
+head_quits : (b : Bool) (ws : Requests) (s : Option Stop)
+    → (s ≡ Some Quit → any_quit (up_to_quit ws) ≡ true) → (if b then Some Quit else s) ≡ Some Quit
+    → (b || any_quit (if b then [] else up_to_quit ws)) ≡ true
+head_quits true ws s f e = refl
+head_quits false ws s f e = f e
+
+-- where a QUIT stops the reader, it is among what runs
+pub stopped_quits : (ws : Requests) (f : Option StreamFault) → stop_behind ws f ≡ Some Quit
+    → any_quit (up_to_quit ws) ≡ true
+stopped_quits [] None e = absurd (let no : ⊥ = cc in no)
+stopped_quits [] (Some f) e = absurd (let no : ⊥ = cc in no)
+stopped_quits (w ∷ ws) f e =
+    head_quits (is_quit w) ws (stop_behind ws f) (stopped_quits ws f) e
+
+any_left : (b c : Bool) → (b || c) ≡ true → (b ≡ true) ⊎ (c ≡ true)
+any_left true c e = inl refl
+any_left false c e = inr e
+
+or_left : (b c : Bool) → b ≡ true → (b || c) ≡ true
+or_left true c e = refl
+or_left false c e = absurd (let no : ⊥ = cc in no)
+
+or_right : (b c : Bool) → c ≡ true → (b || c) ≡ true
+or_right true c e = refl
+or_right false c e = e
+
+any_append : (xs ys : Requests) → any_quit (xs ++ ys) ≡ true
+    → (any_quit xs ≡ true) ⊎ (any_quit ys ≡ true)
+any_append [] ys e = inr e
+any_append (x ∷ xs) ys e =
+    elim (any_left (is_quit x) (any_quit (xs ++ ys)) e) [
+      | inl h ↦ inl (or_left (is_quit x) (any_quit xs) h)
+      | inr h ↦ elim (any_append xs ys h) [
+        | inl g ↦ inl (or_right (is_quit x) (any_quit xs) g)
+        | inr g ↦ inr g
+      ]
+    ]
+
+quit_more : (id : ℕ) (e : Entry) (past : List Entry) → has_quit id past ≡ true
+    → has_quit id (e ∷ past) ≡ true
+quit_more id (Admit n) past h = h
+quit_more id (Run n words moment) past h = or_right ((n == id) && is_quit words) _ h
+quit_more id (Tick moment) past h = h
+quit_more id (Take n most) past h = h
+quit_more id (Close n) past h = h
+
+pub quit_begins : (id : ℕ) (a b : List Entry) → IsBefore a b → has_quit id a ≡ true
+    → has_quit id b ≡ true
+quit_begins id a b more h =
+    begins_lift (λ past. has_quit id past ≡ true) (quit_more id) a b more h
+
+-- ---- the turns of a connection
+
+module _ (clock : Option ℕ) (id : ℕ) (past : List Entry) where
+  here : (n : ℕ) (q rest : Bool) → n ≡ id → (q || false) ≡ true
+      → (((n == id) && q) || rest) ≡ true
+  here n true rest e h = ap (λ b. (b && true) || rest) (eq-eqb n id e)
+  here n false rest e h = absurd (let no : ⊥ = cc in no)
+
+  quit_at : (t : Turn) → IsWork id clock t → any_quit (run_in t) ≡ true
+      → has_quit id (t.0 ∷ t.1) ≡ true
+  quit_at (Admit n, p) work any = absurd work
+  quit_at (Run n words moment, p) work any =
+      here n (is_quit words) (has_quit id p) work.0 any
+  quit_at (Tick moment, p) work any = absurd (let no : ⊥ = cc in no)
+  quit_at (Take n most, p) work any = absurd (let no : ⊥ = cc in no)
+  quit_at (Close n, p) work any = absurd work
+
+  -- a QUIT is among those that ran
+  pub ran_quit : (ts : List Turn) → All (IsWork id clock) ts
+      → All (λ t. IsBefore (t.0 ∷ t.1) past) ts → any_quit (runs_in ts) ≡ true
+      → has_quit id past ≡ true
+  ran_quit [] work stand any = absurd (let no : ⊥ = cc in no)
+  ran_quit (t ∷ ts) work stand any =
+      elim (any_append (runs_in ts) (run_in t) any) [
+        | inl h ↦ ran_quit ts (All-tail (IsWork id clock) t ts work)
+            (All-tail (λ (x : Turn). IsBefore (x.0 ∷ x.1) past) t ts stand) h
+        | inr h ↦ quit_begins id (t.0 ∷ t.1) past
+            (All-head (λ (x : Turn). IsBefore (x.0 ∷ x.1) past) t ts stand)
+            (quit_at t (All-head (IsWork id clock) t ts work) h)
+      ]
