@@ -161,7 +161,7 @@ fn tracks_behind(tracks: Option<Tracks>, words: &Words) -> Option<Tracks> {
     }
 }
 
-fn tracks(id: u64, past: &[Entry]) -> Option<Tracks> {
+fn tracks_in(id: u64, past: &[Entry]) -> Option<Tracks> {
     let mut tracks = None;
     for entry in past {
         if let Entry::Run { id: by, words, .. } = entry {
@@ -196,7 +196,7 @@ fn is_marked(id: u64, past: &[Entry]) -> bool {
             if *by == id {
                 return match request_of(words) {
                     Request::Mark(is_yes) => {
-                        mark_fault(is_yes, tracks(id, &past[..before])).is_none()
+                        mark_fault(is_yes, tracks_in(id, &past[..before])).is_none()
                     }
                     _ => false,
                 };
@@ -208,7 +208,7 @@ fn is_marked(id: u64, past: &[Entry]) -> bool {
 
 // Whether a key that a connection reads behind those entries is remembered for it.
 fn remembers(id: u64, past: &[Entry]) -> bool {
-    match tracks(id, past) {
+    match tracks_in(id, past) {
         None => false,
         Some(tracks) => match tracks.opts {
             Opts::All => true,
@@ -219,7 +219,7 @@ fn remembers(id: u64, past: &[Entry]) -> bool {
 }
 
 fn has_noloop(id: u64, past: &[Entry]) -> bool {
-    match tracks(id, past) {
+    match tracks_in(id, past) {
         Some(tracks) => tracks.noloop,
         None => false,
     }
@@ -287,11 +287,11 @@ fn put_reply(id: u64, words: &Words, past: &[Entry], out: &mut Vec<u8>) -> Resul
             (None, Proto::Two) => b"$-1\r\n",
             (None, Proto::Three) => b"_\r\n",
         },
-        Request::Track(asked) if switches(tracks(id, past), asked) => {
+        Request::Track(asked) if switches(tracks_in(id, past), asked) => {
             b"-ERR OPTIN and OPTOUT can't be switched while tracking is on\r\n"
         }
         Request::Set(_, _) | Request::Track(_) | Request::Quit => b"+OK\r\n",
-        Request::Mark(is_yes) => mark_fault(is_yes, tracks(id, past)).unwrap_or(b"+OK\r\n"),
+        Request::Mark(is_yes) => mark_fault(is_yes, tracks_in(id, past)).unwrap_or(b"+OK\r\n"),
         Request::Ping => b"+PONG\r\n",
         Request::Hello(asked) => return put_greeting(asked.unwrap_or(proto), id, out),
         Request::Wrong(text) => text,
