@@ -189,21 +189,20 @@ fn mark_fault(is_yes: bool, tracks: Option<Tracks>) -> Option<&'static [u8]> {
 
 // Whether the last request of a connection is a CLIENT CACHING that was not refused.
 fn is_marked(id: u64, past: &[Entry]) -> bool {
-    let mut before = past.len();
-    for entry in past.iter().rev() {
-        before = before.saturating_sub(1);
+    let mut tracks = None;
+    let mut marked = false;
+    for entry in past {
         if let Entry::Run { id: by, words, .. } = entry {
             if *by == id {
-                return match request_of(words) {
-                    Request::Mark(is_yes) => {
-                        mark_fault(is_yes, tracks_in(id, &past[..before])).is_none()
-                    }
+                marked = match request_of(words) {
+                    Request::Mark(is_yes) => mark_fault(is_yes, tracks).is_none(),
                     _ => false,
                 };
+                tracks = tracks_behind(tracks, words);
             }
         }
     }
-    false
+    marked
 }
 
 // Whether a key that a connection reads behind those entries is remembered for it.
