@@ -1,7 +1,8 @@
 //! The tokens of values and requests: ends, lengths, lines and counted bytes.
 ghost use Rattle.std.specs.Prelude.{◌≡◌, ℕ, ◌≤◌, ◌<◌, ◌^◌, length, take, List, ◌∷◌, [], IfNone};
-ghost use Rattle.std.specs.Prelude.{IfSome};
+ghost use Rattle.std.specs.Prelude.{IfSome, Some};
 ghost use Rattle.resp_stream.specs.declared.tokens.LengthRule.{LengthRule};
+ghost use Rattle.resp_stream.specs.Parsed.{Whole};
 ghost use Rattle.resp_stream.specs.Results.{Gives, IfLength};
 ghost use Rattle.resp_stream.specs.Tokens.{only_byte, line_feed, ending, digits_at, length_at};
 ghost use Rattle.resp_stream.specs.Tokens.{counted_at, minus_one, IsRule, ends_line, refused};
@@ -127,6 +128,46 @@ fn digits_of(
     Ok(None)
 }
 
+/// The digits so far make the length, and its end comes.
+#[tactic(auto, unfolding(crate::specs::Tokens::digits_at, crate::specs::Tokens::only_byte))]
+fn ended(rule: LengthRule, number: u64, bytes: &[u8]) -> Option<(u64, &[u8])>
+    requires { number ≤ rule.limit }
+    ensures gives { IfSome result
+        (λ x. digits_at rule number bytes.now ≡ Whole (Some x.0) x.1.now) }
+    ensures limit { IfSome result (λ x. x.0 ≤ rule.limit) }
+{
+    let [13, 10, rest @ ..] = bytes else {
+        return None;
+    };
+    if number < rule.least {
+        return None;
+    }
+    Some((number, rest))
+}
+
+/// One digit more makes the length, and its end comes.
+#[tactic(auto, unfolding(crate::specs::Tokens::digits_at, crate::specs::Tokens::only_byte))]
+fn ended_behind(rule: LengthRule, number: u64, bytes: &[u8]) -> Option<(u64, &[u8])>
+    requires rule { IsRule rule }
+    requires number { number ≤ rule.limit }
+    ensures gives { IfSome result
+        (λ x. digits_at rule number bytes.now ≡ Whole (Some x.0) x.1.now) }
+    ensures limit { IfSome result (λ x. x.0 ≤ rule.limit) }
+{
+    let [c, 13, 10, rest @ ..] = bytes else {
+        return None;
+    };
+    let c = *c;
+    if c < 48 || 57 < c {
+        return None;
+    }
+    let longer = number * 10 + u64::from(c - 48);
+    if longer < rule.least || rule.limit < longer {
+        return None;
+    }
+    Some((longer, rest))
+}
+
 /// A length after its type byte, with its end; nothing for the null `-1`.
 #[tactic(auto, unfolding(crate::specs::Tokens::length_at, crate::specs::Tokens::minus_one))]
 pub(crate) fn length_of(
@@ -157,6 +198,13 @@ pub(crate) fn length_of(
     let number = u64::from(c - 48);
     if rule.limit < number {
         return Err(broken(Fault::TooLong(number), bytes));
+    }
+    // Most lengths are of one digit or two, which need no loop.
+    if let Some((length, rest)) = ended(rule, number, rest) {
+        return Ok(Some((Some(length), rest)));
+    }
+    if let Some((length, rest)) = ended_behind(rule, number, rest) {
+        return Ok(Some((Some(length), rest)));
     }
     digits_of(rule, number, rest)
 }

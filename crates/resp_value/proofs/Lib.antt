@@ -2,3 +2,4 @@ pub mod InTurn
 pub mod OneToOne
 pub mod Prefixes
 pub mod SpellingSteps
+pub mod TwoParts

@@ -21,7 +21,6 @@ use Rattle.shared_cache.specs.declared.log.Wire.TheVariants.{Main, Side}
 use Rattle.shared_cache.specs.declared.log.Shape.{Shape}
 use Rattle.shared_cache.specs.declared.log.Shape.TheVariants.{Single, Pair}
 use Rattle.shared_cache.specs.declared.side.SideLink.{SideLink}
-use Rattle.shared_cache.specs.declared.log.Caching.TheVariants.{Default}
 use Rattle.shared_cache.specs.declared.log.ClientMode.{ClientMode}
 use Rattle.shared_cache.specs.declared.log.LogEntry.{LogEntry}
 use Rattle.shared_cache.specs.declared.log.LogEntry.TheVariants as entry
@@ -55,13 +54,6 @@ IsClientMode m = m.shape ≡ Single → m.proto ≡ Three
 pub record IsOneLink (m : ClientMode) : Type 0 where
   pub shape : m.shape ≡ Single
   pub proto : m.proto ≡ Three
-
--- the one of them by default: no caching word goes before a command, and every key is covered
-pub record IsServed (m : ClientMode) : Type 0 where
-  pub shape : m.shape ≡ Single
-  pub proto : m.proto ≡ Three
-  pub caching : m.caching ≡ Default
-  pub noloop : m.noloop ≡ false
 
 -- an entry that ends that link
 abbrev pub IsLast : Wire → LogEntry → Type 0

@@ -77,7 +77,7 @@ impl NamedKeys {
         }
     }
 
-    /// Of how many commands.
+    /// How many commands wait for their replies.
     pub fn len(&self) -> usize
         ensures { result ≡ length self.now }
     {
@@ -101,7 +101,8 @@ impl NamedKeys {
         self.keys.truncate(most);
     }
 
-    /// Those of the oldest, whose number this is, where so many have none.
+    /// The keys of the oldest command that waits for its reply, whose number this is. The first
+    /// numbers, up to `before`, are the handshake's, which names none.
     pub fn for_number(&self, number: u64, before: u64) -> Option<&Written>
         ensures { option_copied result
             ≡ (if nat_lt before number then slice_get self.now 0 else None) }

@@ -1,6 +1,8 @@
 //! Tests of values, of both readers, and of queues of bytes.
 mod byte_queues;
+mod long_blobs;
 mod longest_value;
+mod octets;
 mod out_queues;
 mod streams;
 mod values;
