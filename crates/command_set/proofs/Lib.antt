@@ -7,3 +7,4 @@ pub mod TakenBack
 pub mod MovedAside
 pub mod KeptBack
 pub mod TakenOut
+pub mod Unchanged

@@ -10,13 +10,16 @@ use Rattle.std.proofs.lemmas.Slice.Eq.{bytes_eq-Decides}
 use Rattle.resp_value.specs.declared.octets.NoMemory.{NoMemory}
 use Rattle.command_words.specs.declared.command.Command.{Command}
 use Rattle.command_words.specs.declared.command.Command.TheVariants as command
+use Rattle.command_words.specs.declared.command.SetLife.{SetLife}
+use Rattle.command_words.specs.declared.command.SetLife.TheVariants as life
+use Rattle.command_words.specs.declared.command.SetWhen.{SetWhen}
 use Rattle.command_words.specs.declared.written.Written.{Written}
 use Rattle.command_words.specs.declared.written.Written.TheVariants.{Keys}
 use Rattle.command_words.specs.Effects.{effect, hash_effect, string_effect}
 use Rattle.command_words.specs.Hashes.{hincrby_effect}
 use Rattle.command_words.specs.Queries.{names, written}
 use Rattle.command_words.specs.Space.{Held, Space}
-use Rattle.command_words.specs.Strings.{decrby_effect, incrby_effect}
+use Rattle.command_words.specs.Strings.{decrby_effect, incrby_effect, set_effect}
 use Rattle.hash_cmds.specs.declared.numbers.FieldChange.{FieldChange}
 use Rattle.hash_cmds.specs.Counted.{IsChange}
 use Rattle.string_cmds.specs.Counted.{IsKept}
@@ -74,6 +77,20 @@ unfolding effect string_effect
 difference_moves key n s t now q other =
     ap (λ m. get m q) now ∙ (row_moves (command.DecrBy key n) s 0).stays q other
 
+set_moves : (key value : List ℕ) (when : SetWhen) (life : SetLife) (m : ℕ) (s t : Space)
+    → t ≡ (set_effect key value when life s m).space
+    → (q : List ℕ) → names (Keys (key ∷ [])) q ≡ false → get t q ≡ get s q
+unfolding effect string_effect
+set_moves key value when life m s t now q other =
+    ap (λ x. get x q) now ∙ (row_moves (command.Set key value when life) s m).stays q other
+
+pub set_back : (key value : List ℕ) (when : SetWhen) (life : SetLife) (m : ℕ)
+    (had : Option (Option Held)) (s t : Space) (kept : Priors) → IsKept key had s t
+    → t ≡ (set_effect key value when life s m).space → kept ≡ changed key had
+    → put_back kept t ≡ s
+set_back key value when life m had s t kept is now so =
+    had_back key had s t kept is (set_moves key value when life m s t now) so
+
 pub sum_back : (key : List ℕ) (n : ℤ) (had : Option (Option Held)) (s t : Space) (kept : Priors)
     → IsKept key had s t → t ≡ (incrby_effect key n s).space → kept ≡ changed key had
     → put_back kept t ≡ s
@@ -97,6 +114,8 @@ field_sum_back key field n change s t kept is now so =
 -- it gives no deadline
 none_new : (c : Command) (s : Space) (m : ℕ) → takes_out c ≡ true → new_deadline c s m ≡ None
 unfolding takes_out new_deadline
+none_new (command.Set key value when life.Cleared) s m takes = refl
+none_new (command.Set key value when life.Kept) s m takes = refl
 none_new (command.GetDel key) s m takes = refl
 none_new (command.HDel key names) s m takes = refl
 none_new (command.HIncrBy key field n) s m takes = refl

@@ -1,8 +1,11 @@
--- Commands that take out what their key holds, or a part of it, or put a number in its place.
+-- Commands that take out what their key holds, or a part of it, or put a number or a string in its
+-- place.
 use Rattle.std.specs.Prelude.{ℕ, List, [], ◌∷◌, Bool, true, false, Option, Some, None}
 use Rattle.command_words.specs.declared.command.Command.{Command}
 use Rattle.command_words.specs.declared.command.Command.TheVariants.{GetDel, HDel, Incr, Decr}
-use Rattle.command_words.specs.declared.command.Command.TheVariants.{IncrBy, DecrBy, HIncrBy}
+use Rattle.command_words.specs.declared.command.Command.TheVariants.{IncrBy, DecrBy, HIncrBy, Set}
+use Rattle.command_words.specs.declared.command.SetLife.{SetLife}
+use Rattle.command_words.specs.declared.command.SetLife.TheVariants.{Cleared, Seconds, Millis, Kept}
 use Rattle.command_words.specs.Space.{Held}
 use Rattle.hash_cmds.specs.declared.numbers.FieldChange.{FieldChange}
 use Rattle.hash_cmds.specs.declared.numbers.FieldChange.TheVariants as change
@@ -16,7 +19,15 @@ is_counter (IncrBy key n) = true
 is_counter (DecrBy key n) = true
 is_counter _ = false
 
+-- SET gives no deadline
+abbrev pub gives_none : SetLife → Bool
+gives_none Cleared = true
+gives_none (Seconds n) = false
+gives_none (Millis n) = false
+gives_none Kept = true
+
 unfoldable pub takes_out : Command → Bool
+takes_out (Set key value when life) = gives_none life
 takes_out (GetDel key) = true
 takes_out (HDel key names) = true
 takes_out (HIncrBy key field n) = true

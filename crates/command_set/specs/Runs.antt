@@ -5,7 +5,7 @@ use Rattle.command_words.specs.Effect.{Effect}
 use Rattle.command_words.specs.Space.{Space}
 use Rattle.expiry.specs.declared.index.Deadline.{Deadline}
 use Rattle.command_set.specs.declared.database.Change.{Change}
-use Rattle.command_set.specs.declared.database.Change.TheVariants.{Keys, All}
+use Rattle.command_set.specs.declared.database.Change.TheVariants.{Nothing, Keys, All}
 use Rattle.command_set.specs.declared.database.Turned.{Turned}
 use Rattle.command_set.specs.declared.database.Undo.{Undo}
 use Rattle.command_set.specs.InStep.{InStep, due_keys}
@@ -26,6 +26,7 @@ IsTurn row (Ok turned) old new =
 IsTurn row (Err e) old new = new ≡ old
 
 abbrev changed_back : Change → Space → Space
+changed_back Nothing space = space
 changed_back (Keys kept due seat) space =
     put_back (priors_of due.items) (put_back (priors_of kept.items) space)
 changed_back (All old) space = old

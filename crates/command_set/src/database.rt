@@ -41,10 +41,11 @@ impl Model for Database {
     ghost invariant = { λ d. InStep d.parts.index d.parts.space };
 }
 
-/// What a run changed: some keys, by what its command kept of them and what the keys that were due
-/// held, with the place for what waits already; or all of them.
+/// What a run changed: nothing; some keys, by what its command kept of them and what the keys that
+/// were due held, with the place for what waits already; or all of them.
 #[derive(Drop)]
 pub(crate) enum Change {
+    Nothing,
     Keys(Vec<Prior>, Vec<Prior>, Box<Waiting>),
     All(Database),
 }
@@ -135,10 +136,20 @@ impl Database {
         ensures { self.new ≡ taken_back undo self.old }
     {
         match undo.change {
+            Change::Nothing => {}
             Change::Keys(kept, due, place) => {
                 push_waiting(&mut self.parts.waiting, kept, due, place);
             }
             Change::All(old) => *self = old,
+        }
+    }
+
+    /// The place that a run took along goes to the next one, once the run stands.
+    pub fn keep_place(&mut self, undo: Undo)
+        ensures { self.new ≡ self.old }
+    {
+        if let Change::Keys(_kept, _due, place) = undo.change {
+            self.parts.place = Some(place);
         }
     }
 }

@@ -1,5 +1,5 @@
 //! The keys whose deadline is before a moment.
-ghost use Rattle.std.specs.Prelude.{◌≡◌, ◌++◌, IfOk, OnOk, OnErr};
+ghost use Rattle.std.specs.Prelude.{◌≡◌, ◌++◌, [], true, IfOk, OnOk, OnErr};
 ghost use Rattle.command_words.specs.Expiry.{without_due};
 ghost use Rattle.command_words.specs.Keys.{remove_each};
 ghost use Rattle.expiry.specs.Blocks.{joined};
@@ -8,8 +8,18 @@ ghost use Rattle.command_set.specs.InStep.{InStep, due_keys};
 
 use expiry::{Block, Deadline, DeadlineIndex};
 use keyspace::Keyspace;
-use resp_value::{NoMemory, Words};
+use resp_value::{NoMemory, Octets, Words};
 use std::alloc::Global;
+
+/// Whether there are no keys.
+pub(crate) fn are_none(keys: &[Octets]) -> bool
+    ensures { result ≡ true → keys.now ≡ [] }
+{
+    match keys {
+        [] => true,
+        _ => false,
+    }
+}
 
 fn push_keys(deadlines: &[Deadline], keys: &mut Words) -> Result<(), NoMemory>
     ensures { OnOk result (keys.new ≡ keys.old ++ keys_of deadlines.now) }

@@ -1,8 +1,9 @@
-//! A command that takes out what its key holds, or puts a number in its place: what goes is moved
-//! into what is kept of the run.
+//! A command that takes out what its key holds, or puts a number or a string in its place: what
+//! goes is moved into what is kept of the run.
 ghost use Rattle.std.specs.Prelude.{◌≡◌, ◌<◌, [], true, IfOk, OnOk, OnErr, option_map};
 ghost use Rattle.std.specs.Prelude.{vec_len, vec_capacity};
 ghost use Rattle.command_words.specs.declared.command.Command.TheVariants.{GetDel, HDel, HIncrBy};
+ghost use Rattle.command_words.specs.declared.command.Command.TheVariants.{Set};
 ghost use Rattle.command_words.specs.declared.written.Written.TheVariants.{Keys};
 ghost use Rattle.command_words.specs.Effects.{effect};
 ghost use Rattle.command_words.specs.Queries.{written};
@@ -15,21 +16,25 @@ ghost use Rattle.command_set.specs.Priors.{priors_of, put_back};
 use super::prior::{Kept, Prior};
 use super::step::settle;
 use super::touched::deadlines_before;
-use command_words::{Command, Done};
+use command_words::{Command, Done, SetLife, SetWhen};
 use expiry::DeadlineIndex;
 use hash_cmds::{FieldChange, add_field, take_fields};
 use keyspace::{Held, Keyspace};
 use resp_value::{NoMemory, Octets, Words};
 use std::alloc::Global;
-use string_cmds::{add_number, take_number, take_text};
+use string_cmds::{add_number, set_text, take_number, take_text};
 
-/// Whether the command takes out what its key holds, or a part of it, or puts a number in its
-/// place.
+/// Whether the command takes out what its key holds, or a part of it, or puts a number or a string
+/// in its place and gives no deadline.
 #[tactic(auto, unfolding(crate::specs::Moving::takes_out))]
 pub(crate) fn takes_out(command: &Command) -> bool
     ensures { result ≡ takes_out command.now }
 {
     match command {
+        Command::Set(_, _, _, life) => match life {
+            SetLife::Cleared | SetLife::Kept => true,
+            SetLife::Seconds(_) | SetLife::Millis(_) => false,
+        },
         Command::GetDel(_) | Command::HDel(_, _) | Command::HIncrBy(_, _, _) => true,
         Command::Incr(_) | Command::Decr(_) => true,
         Command::IncrBy(_, _) | Command::DecrBy(_, _) => true,
@@ -129,6 +134,33 @@ fn keep_had(kept: Vec<Prior>, key: Octets, had: Option<Option<Held>>) -> Vec<Pri
         });
     }
     kept
+}
+
+/// SET; what the key held is kept, where it changed.
+#[tactic(auto, unfolding(crate::specs::Rows::effect, crate::specs::Rows::string_effect))]
+fn move_value(
+    alloc: Global,
+    space: &mut Keyspace,
+    key: &Octets,
+    value: &Octets,
+    when: SetWhen,
+    life: SetLife,
+    moment: u64,
+) -> Result<(Done, Vec<Prior>), NoMemory>
+    ensures reply { IfOk result (λ r. r.0.reply
+        ≡ (effect (Set key.now value.now when life) space.old moment).reply) }
+    ensures signals { IfOk result (λ r. r.0.signalled
+        ≡ (effect (Set key.now value.now when life) space.old moment).signalled) }
+    ensures space { OnOk result
+        (space.new ≡ (effect (Set key.now value.now when life) space.old moment).space) }
+    ensures back { IfOk result (λ r. put_back (priors_of r.1.items) space.new ≡ space.old) }
+    ensures err { OnErr result (space.new ≡ space.old) }
+{
+    let mut kept = Vec::new(alloc);
+    kept.reserve(1)?;
+    let name = key.copy()?;
+    let (done, had) = set_text(alloc, space, key.as_slice(), value, when, life, moment)?;
+    Ok((done, keep_had(kept, name, had)))
 }
 
 /// INCRBY; what the key held is kept, where it changed.
@@ -274,6 +306,9 @@ fn move_row(
     ensures err { OnErr result (space.new ≡ space.old) }
 {
     match command {
+        Command::Set(key, value, when, life) => {
+            move_value(alloc, space, key, value, *when, *life, moment)
+        }
         Command::GetDel(key) => move_text(alloc, space, key, moment),
         Command::HDel(key, names) => move_fields(alloc, space, key, names, moment),
         Command::HIncrBy(key, field, number) => {

@@ -25,7 +25,7 @@ pub fn has_row(command: &Command) -> bool
 }
 
 /// Runs the command on the keyspace alone.
-fn run_row(
+pub(crate) fn run_row(
     alloc: Global,
     space: &mut Keyspace,
     command: &Command,

@@ -4,19 +4,19 @@ ghost use Rattle.command_words.specs.declared.written.Written.TheVariants.{All, 
 ghost use Rattle.command_words.specs.Effects.{effect, has_row};
 ghost use Rattle.command_words.specs.Expiry.{without_due};
 ghost use Rattle.command_words.specs.Queries.{written};
-ghost use Rattle.command_set.specs.InStep.{InStep};
+ghost use Rattle.command_set.specs.InStep.{InStep, due_keys};
 ghost use Rattle.command_set.specs.Priors.{shown};
 ghost use Rattle.command_set.specs.declared.waiting.Waiting.TheVariants.{Nothing};
 ghost use Rattle.command_set.specs.Runs.{AreDue, IsTurn, taken_back};
 
 use super::database::{Change, Database, Expired, Turned, Undo};
-use super::due::due_keys;
+use super::due::{are_none, due_keys};
 use super::keeping::run_kept;
-use super::run::run_data;
+use super::run::{run_data, run_row};
 use super::take_due::take_due;
-use super::waiting::{Parts, Waiting, push_waiting};
+use super::waiting::{Parts, push_waiting, take_place};
 use command_words::Command;
-use resp_value::{NoMemory, Octets};
+use resp_value::{NoMemory, Octets, Words};
 use std::alloc::Global;
 use std::mem;
 
@@ -32,7 +32,13 @@ pub(crate) fn expire(alloc: Global, parts: &mut Parts, moment: u64) -> Result<Ex
     ensures step { InStep parts.new.index parts.new.space }
 {
     let keys = due_keys(alloc, &parts.index, moment)?;
-    let place = Box::new(alloc, Waiting::Nothing)?;
+    if are_none(keys.as_slice()) {
+        let undo = Undo {
+            change: Change::Nothing,
+        };
+        return Ok(Expired { keys, undo });
+    }
+    let place = take_place(alloc, &mut parts.place)?;
     let due = take_due(
         alloc,
         &mut parts.space,
@@ -61,6 +67,38 @@ pub(crate) fn one_written(command: &Command) -> Option<&Octets>
     }
 }
 
+/// A command that writes no key, where none is due, keeps nothing of its run.
+fn run_reading(
+    alloc: Global,
+    parts: &mut Parts,
+    command: &Command,
+    moment: u64,
+    expired: Words,
+) -> Result<Turned, NoMemory>
+    requires has { has_row command.now ≡ true }
+    requires step { InStep parts.old.index parts.old.space }
+    requires settled { parts.old.waiting ≡ Nothing }
+    requires keys { written command.now ≡ Keys [] }
+    requires expired { expired ≡ due_keys moment parts.old.index }
+    requires none { expired ≡ [] }
+    ensures turn { IsTurn (effect command.now (without_due moment (shown parts.old)) moment)
+        result (shown parts.old) (shown parts.new) }
+    ensures expired { IfOk result (λ turned. AreDue moment (shown parts.old) turned.expired) }
+    ensures undo { IfOk result (λ turned.
+        taken_back turned.undo (shown parts.new) ≡ shown parts.old) }
+    ensures step { InStep parts.new.index parts.new.space }
+{
+    let done = run_row(alloc, &mut parts.space, command, moment)?;
+    let undo = Undo {
+        change: Change::Nothing,
+    };
+    Ok(Turned {
+        expired,
+        done,
+        undo,
+    })
+}
+
 /// A command that writes these keys. What it changes and what the due keys hold is kept, so that
 /// the run can be taken back without memory.
 pub(crate) fn run_keys(
@@ -82,7 +120,10 @@ pub(crate) fn run_keys(
     ensures step { InStep parts.new.index parts.new.space }
 {
     let expired = due_keys(alloc, &parts.index, moment)?;
-    let place = Box::new(alloc, Waiting::Nothing)?;
+    if are_none(keys) && are_none(expired.as_slice()) {
+        return run_reading(alloc, parts, command, moment, expired);
+    }
+    let place = take_place(alloc, &mut parts.place)?;
     let due = take_due(
         alloc,
         &mut parts.space,

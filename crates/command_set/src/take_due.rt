@@ -7,6 +7,7 @@ ghost use Rattle.command_words.specs.Keys.{remove_each};
 ghost use Rattle.command_set.specs.InStep.{InStep, due_keys};
 ghost use Rattle.command_set.specs.Priors.{priors_of, put_back};
 
+use super::due::are_none;
 use super::prior::{Kept, Prior};
 use expiry::DeadlineIndex;
 use keyspace::Keyspace;
@@ -66,6 +67,9 @@ pub(crate) fn take_due(
     ensures back { IfOk result (λ v. put_back (priors_of v.items) space.new ≡ space.old) }
     ensures err { OnErr result (space.new ≡ space.old) }
 {
+    if are_none(keys) {
+        return Ok(Vec::new(alloc));
+    }
     let names = copies_of(alloc, keys)?;
     let mut kept = Vec::new(alloc);
     kept.reserve(names.len())?;

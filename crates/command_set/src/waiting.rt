@@ -21,12 +21,14 @@ pub enum Waiting {
     Run(Vec<Prior>, Vec<Prior>, Box<Waiting>),
 }
 
-/// The keyspace with the index of its deadlines, and what waits to be put back into both.
+/// The keyspace with the index of its deadlines, what waits to be put back into both, and the place
+/// for what waits that a run which stands gave back.
 #[derive(Drop)]
 pub struct Parts {
     pub space: Keyspace,
     pub index: DeadlineIndex,
     pub waiting: Waiting,
+    pub place: Option<Box<Waiting>>,
 }
 
 impl Parts {
@@ -39,7 +41,19 @@ impl Parts {
             space: Keyspace::new(alloc),
             index: DeadlineIndex::new(alloc),
             waiting: Waiting::Nothing,
+            place: None,
         }
+    }
+}
+
+/// The place that a run takes along: the one that an earlier run gave back, or a new one.
+pub(crate) fn take_place(
+    alloc: Global,
+    place: &mut Option<Box<Waiting>>,
+) -> Result<Box<Waiting>, NoMemory> {
+    match place.take() {
+        Some(place) => Ok(place),
+        None => Ok(Box::new(alloc, Waiting::Nothing)?),
     }
 }
 

@@ -1,7 +1,7 @@
 -- Rows of the commands on hashes, from what a change of the fields under a key gave.
 use Rattle.std.proofs.Common.{arith, ◌≡◌, ℕ, ◌+◌, ◌-◌, Bool, true, false, cond, List, [], ◌∷◌, ◌++◌}
 use Rattle.std.proofs.Common.{Option, Some, None, Result, Ok, Err, OnErr, OnOk, refl, ap, sym, ◌∙◌}
-use Rattle.std.proofs.Common.{ℤ, length, map, take, slice_get, zero, suc, add-one}
+use Rattle.std.proofs.Common.{ℤ, length, map, take, slice_get, subst, zero, suc, add-one}
 use Rattle.std.specs.Option.{option_map}
 use Rattle.std.specs.Ordering.{nat_cmp, eq_by_cmp}
 use Rattle.std.specs.Cmp.Lexicographic.{slice_cmp, nat_list_cmp_total, texts_ties}
@@ -9,10 +9,9 @@ use Rattle.std.specs.FinMap.{get, insert, remove, get-insert, get-remove, same_m
 use Rattle.std.specs.FinMap.{slice_cmp-IsAntisymmetric, nat_cmp-IsAntisymmetric}
 use Rattle.std.proofs.lemmas.Slice.Eq.{bytes_eq-Decides}
 use Rattle.resp_value.specs.declared.value.Value.{Value}
-use Rattle.resp_value.specs.Tree.{in_turn}
 use Rattle.command_words.specs.Space.{Content, Held, Text, Fields, Space, content_at, deadline_at}
 use Rattle.command_words.specs.Effect.{sum_in}
-use Rattle.command_words.specs.Hashes.{Pairs, field_set, on_fields, put_fields, remove_all, set_all}
+use Rattle.command_words.specs.Hashes.{Pairs, field_set, on_fields, put_fields, remove_all}
 use Rattle.command_rows.specs.declared.integers.Addition.TheVariants.{Sum}
 use Rattle.command_rows.specs.Additions.{IsAddition}
 use Rattle.keyspace.specs.Lending.{with_content}
@@ -104,6 +103,16 @@ module _ (key : List ℕ) where
     pub changed_there : (old new : Content) → Some old ≡ content_at key space
         → Becomes change old new → FieldsBecome key change space (with_content key new space)
     changed_there old new is becomes fs at = grind (arith, with_content-insert)
+
+    -- a hash that is there and takes a change is the hash of its key after it
+    pub hash_there : (had : Content) (now : Space) → Some had ≡ content_at key space
+        → FieldsBecome key change space now → HashBecomes key change space now
+    hash_there had now at becomes fs has = by had at (subst (λ c. HasFields c fs) (sym at) has)
+      where
+        by : (had : Content) → Some had ≡ content_at key space → HasFields (Some had) fs
+            → now ≡ with_hash key (change fs) space
+        by (Text value) at has = absurd has
+        by (Fields gs) at has = becomes fs (sym at ∙ ap (λ x. Some (Fields x)) (sym has))
 
 next : {A B : Type 0} (f : A → B) (xs : List A) (i : ℕ) (x : A) → slice_get xs i ≡ Some x
     → map f (take i xs) ++ f x ∷ [] ≡ map f (take (suc i) xs)

@@ -36,11 +36,6 @@ Becomes change old new = (fs : Pairs) → old ≡ Fields fs → new ≡ Fields (
 abbrev pub Adds : (Pairs → Pairs) → Option Content → ℕ → Type 0
 Adds change old n = (fs : Pairs) → HasFields old fs → n ≡ length (change fs) - length fs
 
--- the same of a hash that is there
-abbrev pub AddsThere : (Pairs → Pairs) → Option Content → ℕ → Type 0
-AddsThere change old n =
-    (fs : Pairs) → old ≡ Some (Fields fs) → n ≡ length (change fs) - length fs
-
 -- how many fields a change takes out; where it takes none, it changes nothing
 abbrev pub Loses : (Pairs → Pairs) → Option Content → ℕ → Type 0
 Loses change old n =

@@ -1,5 +1,5 @@
 -- What is found where a number is added to the field of a key.
-use Rattle.std.specs.Prelude.{◌≡◌, ℕ, ℤ, List, [], ◌∷◌, Option, Some, None}
+use Rattle.std.specs.Prelude.{◌≡◌, ℕ, ℤ, List, [], ◌∷◌, Some, None}
 use Rattle.std.specs.FinMap.{insert}
 use Rattle.std.specs.Fmt.{signed_decimal}
 use Rattle.resp_value.specs.declared.value.Value.TheVariants.{Number}

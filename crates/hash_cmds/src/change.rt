@@ -7,7 +7,7 @@ ghost use Rattle.command_words.specs.Hashes.{remove_all, set_all};
 ghost use Rattle.keyspace.specs.Places.{all_placed, with_placed, with_placed_of};
 ghost use Rattle.keyspace.specs.Plain.{content_of, held_of};
 ghost use Rattle.hash_cmds.specs.Changed.{is_text, is_empty_hash, IsDropped};
-ghost use Rattle.hash_cmds.specs.Changed.{Becomes, Adds, AddsThere, Loses};
+ghost use Rattle.hash_cmds.specs.Changed.{Becomes, Adds, Loses};
 ghost use Rattle.hash_cmds.specs.Changed.{HashBecomes, FieldsBecome};
 ghost use Rattle.hash_cmds.specs.Changed.{held_back, with_hash};
 
@@ -109,21 +109,6 @@ fn set_first(
     Ok(added)
 }
 
-/// Sets fields under a key that is there.
-fn set_more(space: &mut Keyspace, key: &[u8], words: &[Octets]) -> Result<u64, NoMemory>
-    ensures ok { OnOk result
-        (FieldsBecome key.now (set_all (in_turn words.now)) space.old space.new) }
-    ensures added { IfOk result
-        (AddsThere (set_all (in_turn words.now)) (content_at key.now space.old)) }
-    ensures small { IfOk result (λ n. n < 2 ^ 63) }
-    ensures err { OnErr result (space.new ≡ space.old) }
-{
-    match space.content_mut(key) {
-        Some(content) => set_in(content, words),
-        None => Ok(0),
-    }
-}
-
 /// Sets fields under a key, in turn with their values; the answer is how many are new.
 pub(crate) fn set_fields(
     alloc: Global,
@@ -138,9 +123,9 @@ pub(crate) fn set_fields(
     ensures small { IfOk result (λ n. n < 2 ^ 63) }
     ensures err { OnErr result (space.new ≡ space.old) }
 {
-    match space.get(key) {
+    match space.content_mut(key) {
+        Some(content) => set_in(content, words),
         None => set_first(alloc, space, key, words),
-        Some(_) => set_more(space, key, words),
     }
 }
 

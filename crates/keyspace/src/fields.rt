@@ -1,33 +1,32 @@
-//! The fields of a hash, in order of first insertion.
+//! The fields of a hash behind a pointer, so that a key that holds a string has no room for them.
 ghost use Rattle.std.specs.Prelude.{◌≡◌, ◌+◌, ◌-◌, ◌<◌, ◌^◌, [], IfOk, OnOk, OnErr, is_some, not};
-ghost use Rattle.std.specs.Prelude.{false, if◌then◌else◌};
-ghost use Rattle.std.specs.Prelude.{option_map, option_to_list, slice_get, length, vec_len};
-ghost use Rattle.std.specs.Prelude.{vec_capacity, ◌≤◌};
+ghost use Rattle.std.specs.Prelude.{false, if◌then◌else◌, option_map, slice_get, length};
 ghost use Rattle.resp_value.specs.Tree.{in_turn};
 ghost use Rattle.command_words.specs.Hashes.{field_get, field_set, field_remove, set_all};
 ghost use Rattle.command_words.specs.Hashes.{remove_all};
 ghost use Rattle.keyspace.specs.Places.{all_placed, placed_back};
 
-use super::copies::{copies_in_turn, insert_in_room};
-use super::placed::{Placed, copies_of, put_in_room};
-use indexmap::IndexMap;
+use super::field_table::FieldTable;
+use super::placed::Placed;
 use resp_value::{NoMemory, Octets};
 use std::alloc::Global;
 use std::marker::Model;
-use std::mem;
 
 /// The fields of a hash with their values; contracts see the list of pairs, whose names differ.
 #[derive(Drop)]
 pub struct Fields {
-    table: IndexMap<Vec<u8>, Octets>,
+    alloc: Global,
+    /// None until the first field comes.
+    table: Option<Box<FieldTable>>,
 }
 
 impl Model for Fields {
-    ghost use Rattle.std.specs.Prelude.{ℕ, List, map};
+    ghost use Rattle.std.specs.Prelude.{ℕ, List, []};
+    ghost use Rattle.std.specs.Option.{option_map_or};
 
     ghost Value = { List (List ℕ × List ℕ) };
 
-    ghost view = { λ f. map (λ p. (p.0.items, p.1)) f.table.entries };
+    ghost view = { λ f. option_map_or (λ table. table.value) f.table [] };
 }
 
 impl Fields {
@@ -35,25 +34,21 @@ impl Fields {
     pub fn new(alloc: Global) -> Fields
         ensures { result ≡ [] }
     {
-        Fields {
-            table: IndexMap::new(alloc),
-        }
+        Fields { alloc, table: None }
     }
 
     /// An equal list of fields, in the allocator of this one.
     pub fn copy(&self) -> Result<Fields, NoMemory>
         ensures { IfOk result (λ fields. fields ≡ self.now) }
     {
-        let mut table = IndexMap::new(*self.table.allocator());
-        table.reserve(self.table.len())?;
-        'fields: for place in 0..self.table.len() {
-            let Some((field, value)) = self.at(place) else {
-                unreachable!();
-            };
-            let name = Vec::from_slice(*self.table.allocator(), field)?;
-            insert_in_room(&mut table, name, value.copy()?);
+        let alloc = self.alloc;
+        match &self.table {
+            None => Ok(Fields { alloc, table: None }),
+            Some(table) => {
+                let table = Some(Box::new(alloc, table.copy()?)?);
+                Ok(Fields { alloc, table })
+            }
         }
-        Ok(Fields { table })
     }
 
     /// The number of fields.
@@ -61,23 +56,29 @@ impl Fields {
         ensures len { result ≡ length self.now }
         ensures small { result < 2 ^ 63 }
     {
-        self.table.len() as u64
+        match &self.table {
+            None => 0,
+            Some(table) => table.len(),
+        }
     }
 
     /// The value of the field.
     pub fn get(&self, field: &[u8]) -> Option<&Octets>
         ensures { option_map (λ value. value.now) result ≡ field_get field.now self.now }
     {
-        self.table.get(field)
+        match &self.table {
+            None => None,
+            Some(table) => table.get(field),
+        }
     }
 
     /// The field at this place in order of first insertion, with its value.
     pub fn at(&self, place: usize) -> Option<(&[u8], &Octets)>
         ensures { option_map (λ p. (p.0.now, p.1.now)) result ≡ slice_get self.now place }
     {
-        match self.table.get_index(place) {
-            Some((field, value)) => Some((field.as_slice(), value)),
+        match &self.table {
             None => None,
+            Some(table) => table.at(place),
         }
     }
 
@@ -88,12 +89,13 @@ impl Fields {
         ensures had { IfOk result (λ had. had ≡ field_get field.now self.old) }
         ensures err { OnErr result (self.new ≡ self.old) }
     {
-        match self.table.get_mut(field) {
-            Some(place) => Ok(Some(mem::replace(place, value))),
+        match &mut self.table {
+            Some(table) => table.put(field, value),
             None => {
-                let name = Vec::from_slice(*self.table.allocator(), field)?;
-                let old = self.table.insert(name, value)?;
-                Ok(old)
+                let mut table = FieldTable::new(self.alloc);
+                let had = table.put(field, value)?;
+                self.table = Some(Box::new(self.alloc, table)?);
+                Ok(had)
             }
         }
     }
@@ -104,9 +106,15 @@ impl Fields {
         ensures is_new { IfOk result (λ b. b ≡ not (is_some (field_get field.now self.old))) }
         ensures err { OnErr result (self.new ≡ self.old) }
     {
-        let name = Vec::from_slice(*self.table.allocator(), field)?;
-        let old = self.table.insert(name, value)?;
-        Ok(old.is_none())
+        match &mut self.table {
+            Some(table) => table.set(field, value),
+            None => {
+                let mut table = FieldTable::new(self.alloc);
+                let is_new = table.set(field, value)?;
+                self.table = Some(Box::new(self.alloc, table)?);
+                Ok(is_new)
+            }
+        }
     }
 
     /// Sets fields from left to right, given in turn with their values; the answer is how many of
@@ -117,13 +125,15 @@ impl Fields {
         ensures small { IfOk result (λ n. n < 2 ^ 63) }
         ensures err { OnErr result (self.new ≡ self.old) }
     {
-        let pairs = copies_in_turn(*self.table.allocator(), words)?;
-        self.table.reserve(pairs.len())?;
-        let before = self.table.len();
-        'pairs: for (field, value) in pairs {
-            insert_in_room(&mut self.table, field, value);
+        match &mut self.table {
+            Some(table) => table.set_all(words),
+            None => {
+                let mut table = FieldTable::new(self.alloc);
+                let added = table.set_all(words)?;
+                self.table = Some(Box::new(self.alloc, table)?);
+                Ok(added)
+            }
         }
-        Ok((self.table.len() - before) as u64)
     }
 
     /// Takes the field out, if it is there; the others keep their order. It moves the fields after
@@ -134,38 +144,9 @@ impl Fields {
         ensures len { length self.new + (if result then 1 else 0) ≡ length self.old }
         ensures kept { result ≡ false → self.new ≡ self.old }
     {
-        self.table.shift_remove(field).is_some()
-    }
-
-    /// Takes the field out with its place, if it is there. It moves the fields after that one.
-    fn take(&mut self, field: &[u8]) -> Option<Placed>
-        ensures gone { self.new ≡ field_remove field.now self.old }
-        ensures len { length self.new + (if is_some result then 1 else 0) ≡ length self.old }
-        ensures back { placed_back (all_placed (option_to_list result)) self.new ≡ self.old }
-    {
-        // `len` is called for its clause that the names differ, which the proof cites.
-        let _len = self.table.len();
-        let (place, field, value) = self.table.shift_remove_full(field)?;
-        Some(Placed {
-            place,
-            field,
-            value,
-        })
-    }
-
-    /// Takes the field out, if it is there; what went goes last. There is room for it.
-    fn take_into(&mut self, field: &[u8], taken: &mut Vec<Placed>)
-        requires { vec_len taken.old < vec_capacity taken.old }
-        ensures gone { self.new ≡ field_remove field.now self.old }
-        ensures went { length taken.new.items + length self.new
-            ≡ length taken.old.items + length self.old }
-        ensures back { placed_back (all_placed taken.new.items) self.new
-            ≡ placed_back (all_placed taken.old.items) self.old }
-        ensures len { vec_len taken.new ≤ vec_len taken.old + 1 }
-        ensures capacity { vec_capacity taken.new ≡ vec_capacity taken.old }
-    {
-        if let Some(placed) = self.take(field) {
-            taken.push_reserved(placed);
+        match &mut self.table {
+            None => false,
+            Some(table) => table.remove(field),
         }
     }
 
@@ -178,14 +159,10 @@ impl Fields {
         ensures back { IfOk result (λ v. placed_back (all_placed v.items) self.new ≡ self.old) }
         ensures err { OnErr result (self.new ≡ self.old) }
     {
-        let mut taken = Vec::new(*self.table.allocator());
-        taken.reserve(names.len())?;
-        let mut left = names;
-        'names: while let [name, others @ ..] = left {
-            self.take_into(name.as_slice(), &mut taken);
-            left = others;
+        match &mut self.table {
+            None => FieldTable::new(self.alloc).take_all(names),
+            Some(table) => table.take_all(names),
         }
-        Ok(taken)
     }
 
     /// Fields that were taken out go to their places again, the last one first; one that is there
@@ -194,11 +171,14 @@ impl Fields {
         ensures ok { OnOk result (self.new ≡ placed_back (all_placed taken.now) self.old) }
         ensures err { OnErr result (self.new ≡ self.old) }
     {
-        let mut left = copies_of(*self.table.allocator(), taken)?;
-        self.table.reserve(left.len())?;
-        'taken: while let Some(placed) = left.pop() {
-            put_in_room(&mut self.table, placed);
+        match &mut self.table {
+            Some(table) => table.put_back(taken),
+            None => {
+                let mut table = FieldTable::new(self.alloc);
+                table.put_back(taken)?;
+                self.table = Some(Box::new(self.alloc, table)?);
+                Ok(())
+            }
         }
-        Ok(())
     }
 }

@@ -2,6 +2,7 @@
 #![tactic(auto)]
 
 mod copies;
+mod field_table;
 mod fields;
 mod placed;
 mod space;

@@ -115,22 +115,30 @@ impl Keyspace {
         }
     }
 
+    /// The key holds this, whatever it held, which is the answer. Its name is copied only where it
+    /// is new.
+    pub fn replace(&mut self, key: &[u8], held: Held) -> Result<Option<Held>, NoMemory>
+        ensures ok { OnOk result (self.new ≡ finite.insert self.old key.now (held_of held)) }
+        ensures had { IfOk result (λ had. option_map held_of had ≡ held_at key.now self.old) }
+        ensures err { OnErr result (self.new ≡ self.old) }
+    {
+        match self.table.get_mut(key) {
+            Some(place) => Ok(Some(mem::replace(place, held))),
+            None => {
+                let name = Vec::from_slice(*self.table.allocator(), key)?;
+                self.table.insert(name, held)?;
+                Ok(None)
+            }
+        }
+    }
+
     /// The key holds this, whatever it held. Its name is copied only where it is new.
     pub fn put(&mut self, key: &[u8], held: Held) -> Result<(), NoMemory>
         ensures ok { OnOk result (self.new ≡ finite.insert self.old key.now (held_of held)) }
         ensures err { OnErr result (self.new ≡ self.old) }
     {
-        match self.table.get_mut(key) {
-            Some(place) => {
-                *place = held;
-                Ok(())
-            }
-            None => {
-                let name = Vec::from_slice(*self.table.allocator(), key)?;
-                self.table.insert(name, held)?;
-                Ok(())
-            }
-        }
+        self.replace(key, held)?;
+        Ok(())
     }
 
     /// What the key holds is moved out; an empty string with its deadline stands in its place.

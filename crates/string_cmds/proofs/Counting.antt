@@ -1,6 +1,6 @@
 -- The row of an addition, from what it found and what it wrote.
-use Rattle.std.proofs.Common.{arith, ◌≡◌, ◌∙◌, refl, sym, ap, ℕ, ℤ, List, [], ◌∷◌}
-use Rattle.std.proofs.Common.{Option, Some, None, Result, Ok, Err, OnErr, IfOk}
+use Rattle.std.proofs.Common.{arith, ◌≡◌, ◌∙◌, sym, ap, ℕ, ℤ, List, [], ◌∷◌}
+use Rattle.std.proofs.Common.{Option, Some, Result, Ok, Err, OnErr, IfOk}
 use Rattle.std.specs.FinMap.{get, insert}
 use Rattle.std.specs.Fmt.{signed_decimal}
 use Rattle.std.specs.Option.{option_map, option_and_then}
@@ -13,7 +13,6 @@ use Rattle.command_words.specs.Strings.{on_text, incrby_row, incrby_effect, put_
 use Rattle.command_rows.specs.declared.integers.Addition.TheVariants as addition
 use Rattle.command_rows.specs.Additions.{IsAddition}
 use Rattle.keyspace.specs.Lending.{with_held}
-use Rattle.keyspace.specs.Plain.{held_of}
 use Rattle.keyspace.proofs.Changes.{with_held-insert, with_held-same}
 use Rattle.string_cmds.specs.declared.numbers.Counted.{Counted}
 use Rattle.string_cmds.specs.declared.numbers.Counted.TheVariants.{Sum, NoInteger, Overflow}

@@ -9,4 +9,4 @@ mod writes;
 
 pub use numbers::{add_number, take_number};
 pub use run::{is_string, run_string};
-pub use writes::{moment_after, take_text};
+pub use writes::{moment_after, set_text, take_text};

@@ -7,6 +7,7 @@ ghost use Rattle.command_words.specs.Space.{content_at, deadline_at};
 ghost use Rattle.command_words.specs.Strings.{moment_after, set_deadline, set_effect, sets};
 ghost use Rattle.command_words.specs.Strings.{setnx_effect, getdel_effect, append_effect};
 ghost use Rattle.command_words.specs.Strings.{mset_effect, put_text};
+ghost use Rattle.string_cmds.specs.Counted.{IsKept};
 ghost use Rattle.string_cmds.specs.Extended.{HasText, IsLonger, IsExtended};
 ghost use Rattle.string_cmds.specs.Taken.{IsTaken};
 ghost use Rattle.keyspace.specs.Plain.{content_of, held_of};
@@ -82,6 +83,37 @@ pub(crate) fn put_text(
     space.put(key, Held { content, deadline })
 }
 
+/// SET, with what the key held, where it changed.
+pub fn set_text(
+    alloc: Global,
+    space: &mut Keyspace,
+    key: &[u8],
+    value: &Octets,
+    when: SetWhen,
+    life: SetLife,
+    moment: u64,
+) -> Result<(Done, Option<Option<Held>>), NoMemory>
+    ensures reply { IfOk result (λ r. r.0.reply
+        ≡ (set_effect key.now value.now when life space.old moment).reply) }
+    ensures signals { IfOk result (λ r. r.0.signalled
+        ≡ (set_effect key.now value.now when life space.old moment).signalled) }
+    ensures space { OnOk result
+        (space.new ≡ (set_effect key.now value.now when life space.old moment).space) }
+    ensures kept { IfOk result (λ r.
+        IsKept key.now (option_map (λ had. option_map held_of had) r.1) space.old space.new) }
+    ensures err { OnErr result (space.new ≡ space.old) }
+{
+    if !is_set(space, key, when) {
+        return Ok((replied(alloc, Value::Null), None));
+    }
+    let reply = ok(alloc)?;
+    let keys = only(alloc, key)?;
+    let deadline = deadline_after(space, key, life, moment);
+    let content = Content::Text(value.copy()?);
+    let had = space.replace(key, Held { content, deadline })?;
+    Ok((wrote(reply, keys), Some(had)))
+}
+
 pub(crate) fn set(
     alloc: Global,
     space: &mut Keyspace,
@@ -94,14 +126,8 @@ pub(crate) fn set(
     ensures { IsRow (set_effect key.now value.now when life space.old moment)
         result space.old space.new }
 {
-    if !is_set(space, key, when) {
-        return Ok(replied(alloc, Value::Null));
-    }
-    let reply = ok(alloc)?;
-    let keys = only(alloc, key)?;
-    let deadline = deadline_after(space, key, life, moment);
-    put_text(space, key, value.copy()?, deadline)?;
-    Ok(wrote(reply, keys))
+    let (done, _had) = set_text(alloc, space, key, value, when, life, moment)?;
+    Ok(done)
 }
 
 pub(crate) fn setnx(

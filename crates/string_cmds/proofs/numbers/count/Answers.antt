@@ -1,4 +1,4 @@
-use Rattle.std.proofs.Common.{◌∙◌, ap, refl, sym}
+use Rattle.std.proofs.Common.{◌∙◌, ap, refl}
 use Rattle.keyspace.specs.Lending.{with_held}
 use Rattle.keyspace.specs.Plain.{held_of}
 use Rattle.keyspace.proofs.Changes.{with_held-same}

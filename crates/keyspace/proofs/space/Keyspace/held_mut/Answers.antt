@@ -1,8 +1,6 @@
-use Rattle.std.proofs.Common.{arith, ap, refl, subst, ◌∙◌}
-use Rattle.std.specs.Option.{IsSome, option_map_or}
-use Rattle.std.specs.FinMap.{insert}
+use Rattle.std.proofs.Common.{arith, refl, subst, ◌∙◌}
+use Rattle.std.specs.Option.{IsSome}
 use Rattle.keyspace.specs.Plain.{held_of}
-use Rattle.keyspace.specs.declared.space.Held as entry
 use Rattle.keyspace.proofs.Keyed.{found, put-seen, seen, same_lending, same_end}
 use Rattle.keyspace.proofs.space.Keyspace.held_mut.Goals as goal
 
