@@ -1,14 +1,16 @@
 -- What contracts see of a link and an acceptor in memory.
-use Rattle.std.specs.Prelude.{ℕ, List, [], ◌∷◌, length, drop, Bool, false, nat_le, Option, Some}
-use Rattle.std.specs.Prelude.{None}
+use Rattle.std.specs.Prelude.{ℕ, List, [], ◌∷◌, ◌==◌, length, drop, Bool, false, nat_le, min}
+use Rattle.std.specs.Prelude.{Option, Some, None, if◌then◌else◌}
 use Rattle.std.specs.Io.KnownBytes.{prepend_known}
 use Rattle.edge_links.specs.declared.memory_link.LinkStep.{LinkStep}
 use Rattle.edge_links.specs.declared.memory_link.LinkStep.TheVariants as step
 use Rattle.edge_links.specs.declared.memory_link.MemoryLink.{MemoryLink}
 use Rattle.edge_links.specs.declared.memory_acceptor.AcceptStep.{AcceptStep}
 use Rattle.edge_links.specs.declared.memory_acceptor.AcceptStep.TheVariants as accept
+use Rattle.edge_links.specs.declared.streams.Wrote.{Wrote}
+use Rattle.edge_links.specs.declared.streams.Wrote.TheVariants as wrote
 use Rattle.edge_links.specs.Counts.{nought}
-use Rattle.edge_links.specs.Memory.{bytes_written}
+use Rattle.edge_links.specs.Memory.{bytes_written, next_call, write_answer}
 
 -- The bytes that the steps give, where they are known; nothing comes behind an end. While bytes are
 -- awaited it is not known whether what stands behind comes.
@@ -44,6 +46,21 @@ passed step.End at written = false
 
 abbrev pub is_passed : MemoryLink → Bool
 is_passed l = passed l.step l.at (length (bytes_written l.written))
+
+-- how many writes were made, which one fails, and how many bytes one takes at most
+pub record LinkWrites : Type 0 where
+  pub made : ℕ
+  pub failing : ℕ
+  pub most : ℕ
+
+abbrev pub link_writes : MemoryLink → LinkWrites
+link_writes l = record { made = l.writes; failing = l.failing; most = l.most }
+
+-- what a write of a piece of that length answers: no more than the most goes to what keeps it
+abbrev pub link_write_answer : MemoryLink → ℕ → Wrote
+link_write_answer l size =
+    if next_call l.writes == l.failing then wrote.Failed
+    else write_answer l.written (min l.most size)
 
 -- a link with its counts at 0
 abbrev pub begun_anew : MemoryLink → MemoryLink

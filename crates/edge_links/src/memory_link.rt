@@ -1,11 +1,7 @@
 //! A link in memory, which plays its steps in order and keeps what is written.
-ghost use Rattle.std.specs.Prelude.{◌≡◌, ◌<◌, [], false, IfOk, length};
+ghost use Rattle.std.specs.Prelude.{◌≡◌, ◌≤◌, ◌<◌, ◌-◌, ◌^◌, [], false, IfOk, length};
 ghost use Rattle.std.specs.Io.KnownBytes.{Keeps};
 ghost use Rattle.std.specs.declared.option.Option.TheVariants.{Some};
-ghost use Rattle.edge_links.specs.Counts.{nought};
-ghost use Rattle.edge_links.specs.Memory.{bytes_written, room_of};
-ghost use Rattle.edge_links.specs.MemoryLinks.{begun_anew, bytes_to_come, is_passed};
-ghost use Rattle.edge_links.specs.MemoryLinks.{step_bytes};
 
 use super::NoMemory;
 use super::counts::Counts;
@@ -33,7 +29,8 @@ pub enum LinkStep {
     End,
 }
 
-/// Plays its steps and then gives `End`. It keeps what is written, up to its room.
+/// Plays its steps and then gives `End`. It keeps what is written, up to its room. Writes are
+/// numbered from 1.
 #[derive(Debug, Drop)]
 pub struct MemoryLink {
     step: LinkStep,
@@ -41,15 +38,32 @@ pub struct MemoryLink {
     at: usize,
     steps: VecDeque<LinkStep>,
     written: MemorySink,
+    writes: u64,
+    // The number of the write that fails, if not 0.
+    failing: u64,
+    // How many bytes a write takes at most.
+    most: usize,
     counts: Counts,
+    ghost takes_some: { 1 ≤ most },
 }
 
 impl MemoryLink {
+    ghost use Rattle.edge_links.specs.Counts.{nought};
+    ghost use Rattle.edge_links.specs.Memory.{bytes_written, room_of, writes_named};
+    ghost use Rattle.edge_links.specs.MemoryLinks.{begun_anew, bytes_to_come, is_passed};
+    ghost use Rattle.edge_links.specs.MemoryLinks.{link_writes, step_bytes};
+
     /// The room is reserved here, so that no write takes memory.
     pub fn new(alloc: Global, room: usize, steps: Vec<LinkStep>) -> Result<Self, NoMemory>
         ensures bytes { IfOk result (λ l. bytes_to_come l ≡ step_bytes steps.items) }
         ensures written { IfOk result (λ l. bytes_written l.written ≡ []) }
         ensures room { IfOk result (λ l. room_of l.written ≡ room) }
+        ensures named { IfOk result (λ l. writes_named l.written ≡ []) }
+        ensures writes { IfOk result (λ l. link_writes l ≡ record {
+          made = 0;
+          failing = 0;
+          most = 2 ^ 64 - 1;
+        }) }
         ensures counts { IfOk result (λ l. ⟦<MemoryLink as Link>⟧.counts l ≡ nought) }
     {
         let written = MemorySink::new(alloc, room, Vec::new(alloc))?;
@@ -58,8 +72,33 @@ impl MemoryLink {
             at: 0,
             steps: VecDeque::from(steps),
             written,
+            writes: 0,
+            failing: 0,
+            most: usize::MAX,
             counts: Counts::new(),
         })
+    }
+
+    /// The write of this number fails. It is one write alone: the number that was named before is
+    /// forgotten, and 0 is that of none.
+    pub fn fail_write(&mut self, nth: u64)
+        ensures writes { link_writes self.new ≡ record (link_writes self.old) { failing = nth } }
+        ensures left { bytes_to_come self.new ≡ bytes_to_come self.old }
+        ensures written { self.new.written ≡ self.old.written }
+        ensures counts { self.new.counts ≡ self.old.counts }
+    {
+        self.failing = nth;
+    }
+
+    /// A write takes at most so many bytes.
+    pub fn take_most(&mut self, most: usize)
+        requires { 1 ≤ most }
+        ensures writes { link_writes self.new ≡ record (link_writes self.old) { most = most } }
+        ensures left { bytes_to_come self.new ≡ bytes_to_come self.old }
+        ensures written { self.new.written ≡ self.old.written }
+        ensures counts { self.new.counts ≡ self.old.counts }
+    {
+        self.most = most;
     }
 
     /// What was written.
@@ -110,6 +149,10 @@ impl MemoryLink {
 }
 
 impl Link for MemoryLink {
+    ghost use Rattle.edge_links.specs.Memory.{bytes_written, next_call, room_of, writes_named};
+    ghost use Rattle.edge_links.specs.MemoryLinks.{bytes_to_come, link_write_answer, link_writes};
+    ghost use Rattle.edge_links.specs.Streams.{WriteTakes, WriteCounts};
+
     ghost left = { bytes_to_come };
 
     ghost contents = { λ l. Some (bytes_written l.written) };
@@ -160,8 +203,25 @@ impl Link for MemoryLink {
         }
     }
 
-    fn write(&mut self, bytes: &[u8]) -> Wrote {
-        let wrote = self.written.write(bytes);
+    fn write(&mut self, bytes: &[u8]) -> Wrote
+        requires { 0 < length bytes.now }
+        ensures bytes { WriteTakes result (Some (bytes_written self.old.written))
+            (Some (bytes_written self.new.written)) bytes.now }
+        ensures unread { Keeps (bytes_to_come self.old) (bytes_to_come self.new) }
+        ensures counts { WriteCounts result self.old.counts self.new.counts }
+        ensures answer { result ≡ link_write_answer self.old (length bytes.now) }
+        ensures writes { link_writes self.new
+            ≡ record (link_writes self.old) { made = next_call (link_writes self.old).made } }
+        ensures room { room_of self.new.written ≡ room_of self.old.written }
+        ensures named { writes_named self.new.written ≡ writes_named self.old.written }
+    {
+        self.writes = self.writes.saturating_add(1);
+        if self.writes == self.failing {
+            self.counts.fault();
+            return Wrote::Failed;
+        }
+        let (piece, _) = bytes.split_at(self.most.min(bytes.len()));
+        let wrote = self.written.write(piece);
         if wrote == Wrote::Failed {
             self.counts.fault();
         }

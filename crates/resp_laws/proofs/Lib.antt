@@ -1,5 +1,6 @@
 pub mod Answered
 pub mod Decimals
+pub mod Given
 pub mod Longer
 pub mod Numbers
 pub mod Only

@@ -137,8 +137,8 @@ unfolding value_at
 steady_values = let s = steady_capped whole_limit (value_in 8) (reader_value 8) in
     record { whole = s.whole; bad = s.bad }
 
-same_answer : {A : Type 0} (t u : A) (x y : List ℕ) (a : Parsed A) → a ≡ Whole t x → a ≡ Whole u y
-    → (t ≡ u) × (x ≡ y)
+pub same_answer : {A : Type 0} (t u : A) (x y : List ℕ) (a : Parsed A) → a ≡ Whole t x
+    → a ≡ Whole u y → (t ≡ u) × (x ≡ y)
 same_answer t u k y a e h = (cc, cc)
 
 pub no_prefix : NoneBeginsAnother

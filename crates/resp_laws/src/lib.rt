@@ -7,7 +7,8 @@ ghost use Rattle.resp_laws.specs.Fronts.{IsWellFormed, RequestsInOrder, ValuesIn
 ghost use Rattle.resp_laws.specs.Pieces.{RequestsJoin, ValuesJoin, OnlyRequests, OnlyValues};
 ghost use Rattle.resp_laws.specs.Pieces.{RequestsGrow, ValuesGrow};
 ghost use Rattle.resp_laws.specs.Progress.{BeginsRead, FeedsRead, AnswersRead, EmptiesRead};
-ghost use Rattle.resp_laws.specs.Progress.{WaitsRead, StopsRead, HoldsRead};
+ghost use Rattle.resp_laws.specs.Progress.{WaitsRead, StopsRead, HoldsRead, WholeValues};
+ghost use Rattle.resp_laws.specs.Progress.{WholeRequests};
 ghost use Rattle.resp_laws.specs.Streams.{Steady, FirstFault, Unfinished, WrittenRequests};
 ghost use Rattle.resp_laws.specs.Streams.{NoneBeginsAnother};
 ghost use Rattle.resp_laws.specs.Values.{WrittenValues};
@@ -102,4 +103,10 @@ pub fn law_a_reader_goes_on_where_it_stands()
     ensures holds { HoldsRead }
     ensures waits { WaitsRead }
     ensures stops { StopsRead }
+{}
+
+/// A reader whose bytes begin with a whole value or request answers it, or that memory ran out.
+pub fn law_what_is_whole_is_answered()
+    ensures values { WholeValues }
+    ensures requests { WholeRequests }
 {}

@@ -5,6 +5,7 @@ use Rattle.std.proofs.vec.Vec.TheSendSync as vec
 use Rattle.std.proofs.collections.VecDeque.TheSendSync as deque
 use Rattle.std.proofs.alloc.Global.TheSendSync as heap
 use Rattle.std.proofs.Crossing.{frees}
+use Rattle.resp_value.proofs.octets.Octets.TheSendSync as octets
 use Rattle.resp_value.proofs.value.Pairs.TheLaws.TheKnot.{crosses}
 use Rattle.turn_lock.proofs.lock.Seat.TheSendSync as seat
 use Rattle.turn_lock.proofs.lock.TurnLock.TheSendSync as lock
@@ -21,7 +22,7 @@ use Rattle.script_run.specs.contracts.callers.Answers.TheInside as answers_parts
 pub ruleset vectors = (vec.the_send, vec.the_sync, heap.the_send, heap.the_sync, frees)
 
 answer_send : IsSend answer.the_row
-answer_send = search (sendable, crosses, vectors) depth 20 fits 100000
+answer_send = search (sendable, crosses, vectors, octets.the_send) depth 20 fits 100000
 
 answers_inside : IsSend answers_parts.the_row
 answers_inside =

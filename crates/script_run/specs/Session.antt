@@ -1,7 +1,8 @@
 -- What a session of a script comes to: one log, of which each entry is a turn of a caller, of the
 -- pump, or the end at the last.
-use Rattle.std.specs.Prelude.{◌≡◌, ◌≤◌, ◌⊎◌, ◌+◌, ℕ, ⊤, List, [], ◌∷◌, ◌++◌, length, Option, true}
-use Rattle.std.specs.Prelude.{Some, None, suc}
+use Rattle.std.specs.Prelude.{◌≡◌, ◌≢◌, ◌≤◌, ◌⊎◌, ◌+◌, ℕ, ⊤, List, [], ◌∷◌, ◌++◌, length, Option}
+use Rattle.std.specs.Prelude.{true, Some, None, suc}
+use Rattle.std.specs.List.{All}
 use Rattle.turn_lock.specs.Counts.{total}
 use Rattle.turn_lock.specs.History.{IsPrefix}
 use Rattle.turn_lock.specs.declared.rule.TheConstants.{LAST_TICKET}
@@ -25,7 +26,7 @@ use Rattle.client_link.specs.Pumps.{Pumps}
 use Rattle.script_run.specs.declared.answer.Answer.{Answer}
 use Rattle.script_run.specs.declared.reports.LineEnd.TheVariants as line
 use Rattle.script_run.specs.Lines.{call_for, entry_for, calls_of, AllCame, ThreadsCame}
-use Rattle.script_run.specs.Reports.{line_end}
+use Rattle.script_run.specs.Reports.{line_end, ends_of}
 
 -- each entry of a log, with the entries before it
 abbrev pub turns_in : List LogEntry → List Turn
@@ -119,3 +120,12 @@ pub record Session (s : Setup) (lines : List ScriptLine) (answers : List (List A
   pub legal : LegalLog s log
   pub down : HasDown answers → EndsLink end
   pub unanswered : Unanswered s lines 1 answers called seen tickets came log
+
+-- In a session whose pump did not end the link no line is down: each is answered by a hit or an
+-- answer, or finds no memory, a full log or no ticket.
+abbrev pub LinesAreAnswered : Type 0
+LinesAreAnswered =
+    (s : Setup) (lines : List ScriptLine) (answers : List (List Answer)) (end : PumpEnd)
+    (left0 left1 link0 link1 : Option (List ℕ)) (log : List LogEntry) (tickets : ℕ)
+    → Session s lines answers end left0 left1 link0 link1 log tickets → (EndsLink end → ⊥)
+    → All (λ e. e ≢ line.Said said.Down) (ends_of lines answers)

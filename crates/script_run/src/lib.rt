@@ -3,10 +3,12 @@
 
 mod answer;
 mod callers;
+mod laws;
 mod reports;
 mod session;
 
 pub use answer::Answer;
 pub use callers::Answers;
+pub use laws::law_lines_are_answered;
 pub use reports::{SessionEnd, report};
 pub use session::{Played, play_script};
