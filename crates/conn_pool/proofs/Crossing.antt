@@ -16,6 +16,7 @@ use Rattle.command_set.proofs.waiting.Waiting.TheLaws.TheKnot.{crosses}
 use Rattle.keyspace.proofs.space.Keyspace.TheSendSync as space
 use Rattle.expiry.proofs.index.DeadlineIndex.TheSendSync as index
 use Rattle.track_table.proofs.table.TrackTable.TheSendSync as table
+use Rattle.prefix_table.proofs.table.PrefixTable.TheSendSync as prefixes
 use Rattle.resp_value.proofs.octets.Octets.TheSendSync as octets
 use Rattle.resp_value.proofs.octets.Words.TheSendSync as words
 use Rattle.command_words.proofs.command.Command.TheSendSync as command
@@ -54,7 +55,13 @@ parts_send = declared_send parts.the_type (
   search (sendable, space.the_send) depth 10,
   (
     search (sendable, index.the_send, as_row_send) depth 10,
-    (search (std.crosses, crosses, prior.the_send, sendable, as_row_send) depth 60 fits 20000, tt),
+    (
+      search (std.crosses, crosses, prior.the_send, sendable, as_row_send) depth 60 fits 20000,
+      (
+        search (std.crosses, crosses, prior.the_send, sendable, as_row_send) depth 60 fits 20000,
+        tt,
+      ),
+    ),
   ),
 )
 
@@ -68,7 +75,9 @@ database_send : IsSend database.the_row
 database_send = view_send _ _ _ _ _ database_inside
 
 stores_send : IsSend stores.the_row
-stores_send = search (sendable, database_send, table.the_send, connections.the_send) depth 20
+stores_send =
+    search (sendable, database_send, table.the_send, prefixes.the_send, connections.the_send)
+    depth 20
 
 ruleset values = (
   sendable,

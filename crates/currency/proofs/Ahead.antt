@@ -13,15 +13,12 @@ use Rattle.serial_model.specs.declared.history.Entry.{Entry}
 use Rattle.serial_model.specs.declared.history.Entry.TheVariants.{Run}
 use Rattle.track_modes.specs.ModeState as track
 use Rattle.track_modes.specs.ModeState.{ModeState}
-use Rattle.serial_model.specs.Deadlines.{due_keys}
-use Rattle.serial_model.specs.Tracking.{Invalidation, group, push_of, names_key, tells}
+use Rattle.serial_model.specs.Tracking.{Invalidation, push_of, names_key, tells}
 use Rattle.serial_model.specs.State.{State, is_on}
 use Rattle.serial_model.specs.Actions.{Sending, Message, End}
 use Rattle.serial_model.specs.Plain.{is_three, pushes, tests_before}
 use Rattle.serial_model.specs.History.{expiry_group, mode, runs_on, sent_to, sent, state}
-use Rattle.serial_model.specs.History.{tick_action}
 use Rattle.serial_model.proofs.Counts.{on_is}
-use Rattle.serial_model.proofs.PlainActions.{expiry_is, states_are_plain, tick_plain}
 use Rattle.serial_model.proofs.Tables.{sent_to-append}
 use Rattle.currency.proofs.Lists.{get_parts, get_front, get_behind, one_passes}
 use Rattle.currency.proofs.Runs.{Older}
@@ -52,12 +49,7 @@ module _ (c : ℕ) (l : Limits) (past up : List Entry) (id : ℕ) (words : List 
 
   -- whom the entry tells of the keys that leave before its command
   abbrev told : List Invalidation
-  told = group (due_keys m now.space) now.table
-
-  told_is : expiry_group l up m ≡ told
-  told_is =
-      expiry_is l (tick_action m now) now (states_are_plain l up)
-      (tick_plain m now (states_are_plain l up))
+  told = expiry_group l up m
 
   abbrev before : List (ℕ × Sending)
   before = pushes (tests_before now) told
@@ -134,7 +126,7 @@ module _ (c : ℕ) (l : Limits) (past up : List Entry) (id : ℕ) (words : List 
       → slice_get (sent l c past) place ≡ Some s → s.0 ≡ n → is_reply_at s ≡ true
       → (t : Told c l (Run id words m ∷ up) n key) × (t.place < place)
   told_ahead key due live tracks three place s at number reply =
-      let p = one_passes (tells c key) told (ap (list_any (tells c key)) (sym told_is) ∙ due) in
+      let p = one_passes (tells c key) told due in
       let h = and_parts (p.one.to == c) (names_key p.one.keys key) p.passes in
       let r = pushes_at c l (tests_before now) told p.at p.one p.there
       (takes p.one.to (eqb-true p.one.to c h.0) live tracks three) in

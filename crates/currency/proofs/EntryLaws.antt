@@ -4,9 +4,11 @@
 use Rattle.std.proofs.Common.{◌≡◌, ◌+◌, ◌-◌, ◌<◌, ◌≤◌, ◌⊎◌, ℕ, suc, List, ◌∷◌, length}
 use Rattle.std.proofs.Common.{Bool, true, false, not, Result, Ok, Err, Option, Some, None, refl, ap}
 use Rattle.std.proofs.Common.{sym, ◌∙◌, arith, subst, inl, inr}
-use Rattle.std.specs.Prelude.{slice_get, ◌&&◌, ◌==◌, ◌||◌}
-use Rattle.std.specs.List.{filter}
-use Rattle.std.proofs.lemmas.Bool.{and_parts, both_ways, eqb-true, or_cases, or_from}
+use Rattle.std.specs.Prelude.{slice_get, ◌&&◌, ◌==◌, ◌||◌, nat_eq}
+use Rattle.std.specs.List.{filter, list_any, starts_with}
+use Rattle.std.proofs.lemmas.Bool.{and_from, and_parts, both_ways, cases_Bool, eqb-true}
+use Rattle.std.proofs.lemmas.Bool.{or_cases, or_from, or_parts, or_right}
+use Rattle.std.proofs.lemmas.Bool.Decides.{nat_tests}
 use Rattle.std.proofs.lemmas.Option.{same_Some}
 use Rattle.resp_value.specs.declared.value.Value.{Value}
 use Rattle.resp_value.specs.Carried.{carried}
@@ -23,14 +25,16 @@ use Rattle.command_words.specs.declared.command.WordFault.{WordFault}
 use Rattle.track_modes.specs.declared.fault.ModeFault.{ModeFault}
 use Rattle.track_modes.specs.Commands.{changed, ended, fault_at}
 use Rattle.track_modes.specs.ModeState as track
-use Rattle.track_modes.specs.ModeState.{ModeState, remembers_read}
+use Rattle.track_modes.specs.ModeState.{ModeState, prefixes_of}
+use Rattle.track_modes.specs.declared.tracking.Tracking.{Tracking}
 use Rattle.serial_model.specs.declared.history.Limits.{Limits}
 use Rattle.serial_model.specs.declared.history.Entry.{Entry}
-use Rattle.serial_model.specs.declared.history.Entry.TheVariants.{Run, Tick}
-use Rattle.serial_model.specs.History.{IsLegal, Sending, expired, has_ended, keyspace, made}
-use Rattle.serial_model.specs.History.{made_of, mode, ran as ran_of, ran_over, run_entries, runner}
-use Rattle.serial_model.specs.History.{runs_of, runs_on, sent, served_reading, state, table}
-use Rattle.serial_model.specs.Laws.{ChangeIsSignalled, drops_key, has_prefix_of, is_among, is_due}
+use Rattle.serial_model.specs.declared.history.Entry.TheVariants.{Admit, Run, Tick}
+use Rattle.serial_model.specs.History.{IsLegal, Sending, expired, has_ended, is_admitted, keyspace}
+use Rattle.serial_model.specs.History.{made, made_of, mode, ran as ran_of, ran_over, run_entries}
+use Rattle.serial_model.specs.History.{runner, runs_of, runs_on, sent, served_reading, state, table}
+use Rattle.serial_model.specs.Laws.{ChangeIsSignalled, RegisteredIsMode, covers_key, drops_key}
+use Rattle.serial_model.specs.Laws.{has_prefix_of, is_among, is_due}
 use Rattle.serial_model.specs.Laws.{is_forgets, is_told, remembers, signals_key, signals_key_to}
 use Rattle.serial_model.specs.Laws.{signals_to, stops_tracking}
 use Rattle.serial_model.specs.Modes.{Runner, memory_of, own_effect, unless_refused}
@@ -38,7 +42,6 @@ use Rattle.serial_model.specs.State.{State, is_on}
 use Rattle.serial_model.proofs.Counts.{on_is}
 use Rattle.serial_model.proofs.ModeSteps.{mode_own}
 use Rattle.serial_model.proofs.OwedLaws.{read_is_owed_or_told, told_ends_for_cause}
-use Rattle.serial_model.proofs.PlainActions.{states_are_plain}
 use Rattle.serial_model.proofs.ReadLaws.{read_replies}
 use Rattle.serial_model.proofs.ToldLaws.{told_is_due}
 use Rattle.shared_cache.specs.declared.entry.CacheEntry.{CacheEntry}
@@ -48,10 +51,11 @@ use Rattle.wire_currency.specs.Traffic.{In, Traffic}
 use Rattle.wire_currency.specs.Fetch.{EntryLaws, Excused, Fetch, Lands, ToldOn}
 use Rattle.currency.specs.Links.{Client, IsGot, is_reply_sent, is_single, traffic_of, up_to}
 use Rattle.currency.specs.Current.{fetch_on}
-use Rattle.currency.proofs.Numbered.{Next, next}
+use Rattle.currency.proofs.Covers.{IsToldOf}
+use Rattle.currency.proofs.Numbered.{next}
 use Rattle.currency.proofs.Placed.{reply_at}
 use Rattle.currency.proofs.Replies.{replies_are_of_runs, reply_some}
-use Rattle.currency.proofs.Runs.{Older, RanAt, older_legal, older_up_to, runs_there}
+use Rattle.currency.proofs.Runs.{Older, RanAt, older_legal, older_tail, older_up_to, runs_there}
 
 -- ---- modes
 
@@ -146,28 +150,28 @@ module _ (written : SignalsAreWritten) (l : Limits) (up : List Entry) where
       absurd (both_ways (is_among (expired l up moment) key) none h)
   own_write c key e h none = absurd (let no : ⊥ = cc in no)
 
-left_of : (a : Bool) → (a || false) ≡ true → a ≡ true
-left_of a h = grind arith
+left_of : (a b : Bool) → b ≡ false → (a || b) ≡ true → a ≡ true
+left_of a b e h = grind arith
 
-none_dropped : (to held dropped : Bool) → held ≡ true → (to || (held && dropped)) ≡ false
-    → (to ≡ false) × (dropped ≡ false)
-none_dropped to held dropped is h = (grind arith, grind arith)
+none_dropped : (held dropped : Bool) → held ≡ true → (held && dropped) ≡ false → dropped ≡ false
+none_dropped held dropped is h = grind arith
 
-neither : (a b : Bool) → a ≡ false → b ≡ false → (a || b) ≡ false
-neither a b e f = grind arith
+-- an entry leaves those that were admitted
+still_admitted : (e : Entry) (up : List Entry) (c : ℕ) → is_admitted up c ≡ true
+    → is_admitted (e ∷ up) c ≡ true
+still_admitted (Admit id) up c h = grind (arith, nat_tests)
+still_admitted e up c h = h
+
+still_runs : (l : Limits) (e : Entry) (up : List Entry) (c : ℕ) → runs_on l up c ≡ true
+    → has_ended l c (e ∷ up) ≡ false → runs_on l (e ∷ up) c ≡ true
+still_runs l e up c on live =
+    and_from _ _
+    (still_admitted e up c (and_parts (is_admitted up c) (not (has_ended l c up)) on).0)
+    (ap not live)
 
 module _ (l : Limits) (up : List Entry) (c : ℕ) (key : List ℕ) where
   abbrev s : State
   s = state l up
-
-  -- while no prefix is registered, one that is told remembers the key
-  pub told_remembers : is_told l up c key ≡ true → remembers (table l up) c key ≡ true
-  told_remembers told =
-      let either = (and_parts (is_on s c) (remembers s.table c key
-      || has_prefix_of s.prefixes c key) told).1 in
-      left_of (remembers s.table c key)
-      (sym (ap (λ ps. remembers s.table c key || has_prefix_of ps c key)
-      (states_are_plain l up).none) ∙ either)
 
   -- one that is told has not ended
   pub told_runs : is_told l up c key ≡ true → runs_on l up c ≡ true
@@ -175,13 +179,34 @@ module _ (l : Limits) (up : List Entry) (c : ℕ) (key : List ℕ) where
       sym (on_is l up c)
       ∙ (and_parts (is_on s c) (remembers s.table c key || has_prefix_of s.prefixes c key) told).0
 
+  module _ (registered : RegisteredIsMode) (legal : IsLegal l up) where
+    -- one that has a prefix of the key is told
+    told_by_prefix : runs_on l up c ≡ true → covers_key (mode l c up) key ≡ true
+        → is_told l up c key ≡ true
+    told_by_prefix on starts =
+        let live = on_is l up c ∙ on in
+        and_from _ _ live
+        (or_right _ _ (registered l c up key legal ∙ and_from _ _ live starts))
+
+    -- one that has none remembers the key
+    told_remembers : is_told l up c key ≡ true → covers_key (mode l c up) key ≡ false
+        → remembers s.table c key ≡ true
+    told_remembers told none =
+        left_of (remembers s.table c key) (has_prefix_of s.prefixes c key)
+        (registered l c up key legal ∙ ends_so (is_on s c) none)
+        (and_parts (is_on s c) (remembers s.table c key || has_prefix_of s.prefixes c key) told).1
+      where
+        ends_so : (on : Bool) → covers_key (mode l c up) key ≡ false
+            → (on && covers_key (mode l c up) key) ≡ false
+        ends_so on e = grind arith
+
 -- ---- a fetch's Run, with the modes that it met
 
 pub record Read (l : Limits) (x : Client) (past : List Entry) (home : Wire) (h : CacheEntry)
     (AsAsked : List Entry → Type 0) (at : ℕ) : Type 0 where
   pub run : RanAt (x.id home) past (h.number - 1) at
   pub before : AsAsked run.up
-  pub remembers : remembers_read (mode l (x.id home) run.up) ≡ true
+  pub told_of : IsToldOf (mode l (x.id home) run.up) (key_of h.query)
 
 module _ (l : Limits) (x : Client) (past : List Entry) (home : Wire) (watched : List Wire)
     (home_watched : In home watched) (legal : IsLegal l past) (h : CacheEntry)
@@ -196,9 +221,9 @@ module _ (l : Limits) (x : Client) (past : List Entry) (home : Wire) (watched : 
   legal_older : (up : List Entry) → Older up past → IsLegal l up
   legal_older up o = older_legal l o.newer up (subst (IsLegal l) (sym o.is) legal)
 
-  module _ (AsAsked : List Entry → Type 0)
-      (tracks : (up : List Entry) → AsAsked up
-      → track.is_on (mode l (x.id home) up).tracking ≡ true)
+  module _ (AsAsked : List Entry → Type 0) (asked : Tracking)
+      (tracks : track.is_on asked ≡ true)
+      (settings : (up : List Entry) → AsAsked up → (mode l (x.id home) up).tracking ≡ asked)
       (protocols : (up : List Entry) → AsAsked up
       → (mode l (x.id home) up).proto ≡ x.setup.mode.proto)
       (landed : (e : Entry) (up : List Entry) → Older (e ∷ up) past
@@ -206,7 +231,7 @@ module _ (l : Limits) (x : Client) (past : List Entry) (home : Wire) (watched : 
       → is_due l e up (x.id home) (key_of h.query) ≡ true → AsAsked up → AsAsked (e ∷ up)
       → ((w : Wire) → In w watched → has_ended l (x.id w) (e ∷ up) ≡ false)
       → Lands IsGot T F (length up + 1))
-      (law : ChangeIsSignalled) (written : SignalsAreWritten) where
+      (law : ChangeIsSignalled) (written : SignalsAreWritten) (registered : RegisteredIsMode) where
     run_is : (at : ℕ) (t : Read l x past home h AsAsked at)
         → up_to at past ≡ Run t.run.id t.run.words t.run.moment ∷ t.run.up
     run_is at t =
@@ -258,6 +283,15 @@ module _ (l : Limits) (x : Client) (past : List Entry) (home : Wire) (watched : 
         ∙ ap (λ ws. answer ws (keyspace l (run ∷ p.up))) words
         ∙ ap (λ u. answer h.query (keyspace l u)) (sym all))
 
+    -- what its mode covers before an entry, it covers behind it
+    covers_on : (up all : List Entry) → AsAsked up → AsAsked all
+        → covers_key (mode l (x.id home) up) (key_of h.query) ≡ true
+        → covers_key (mode l (x.id home) all) (key_of h.query) ≡ true
+    covers_on up all before after starts =
+        ap (λ t. list_any (λ p. starts_with nat_eq (key_of h.query) p) (prefixes_of t))
+        (settings all after ∙ sym (settings up before))
+        ∙ starts
+
     told_at_run : (at : ℕ)
         → slice_get (runs_of (x.id home) past) (h.number - 1) ≡ Some h.query
         → (t : Read l x past home h AsAsked at)
@@ -273,24 +307,32 @@ module _ (l : Limits) (x : Client) (past : List Entry) (home : Wire) (watched : 
         let older = subst (λ d. Older (Run d t.run.words t.run.moment ∷ up) past) is t.run.older in
         let all : up_to at past ≡ e ∷ up =
         run_is at t ∙ ap (λ d. Run d t.run.words t.run.moment ∷ up) is in
+        let after = subst AsAsked all good in
+        let legal_all = legal_older (e ∷ up) older in
         let live = λ (w : Wire) (i : In w watched). ap (has_ended l (x.id w)) (sym all) ∙ lives w i
         in
-        let read = read_is_owed_or_told l c t.run.moment t.run.words up k
-        (legal_older (e ∷ up) older)
-        (ap (λ ws. reads_as_cacheable (served_reading ws)) (words_are at t there) ∙ serves)
-        t.remembers (ap key_of (words_are at t there)) in
-        elim (or_cases (is_told l (e ∷ up) c k || is_due l e up c k) (has_ended l c (e ∷ up))
-        read) [
-          | inl rest ↦
-              elim (or_cases (is_told l (e ∷ up) c k) (is_due l e up c k) rest) [
-                | inl here ↦ inl (ap (λ u. is_told l u c k) all ∙ here)
-                | inr due ↦
-                    inr (subst (Lands IsGot T F) t.run.at
-                    (landed e up older (legal_older (e ∷ up) older).0 due t.before
-                    (subst AsAsked all good) live))
+        elim t.told_of [
+          | inl remembered ↦
+              let read = read_is_owed_or_told l c t.run.moment t.run.words up k legal_all
+              (ap (λ ws. reads_as_cacheable (served_reading ws)) (words_are at t there) ∙ serves)
+              remembered (ap key_of (words_are at t there)) in
+              elim (or_cases (is_told l (e ∷ up) c k || is_due l e up c k) (has_ended l c (e ∷ up))
+              read) [
+                | inl rest ↦
+                    elim (or_cases (is_told l (e ∷ up) c k) (is_due l e up c k) rest) [
+                      | inl here ↦ inl (ap (λ u. is_told l u c k) all ∙ here)
+                      | inr due ↦
+                          inr (subst (Lands IsGot T F) t.run.at
+                          (landed e up older legal_all.0 due t.before after live))
+                    ]
+                | inr ended ↦
+                    absurd (both_ways (has_ended l c (e ∷ up)) (live home home_watched) ended)
               ]
-          | inr ended ↦
-              absurd (both_ways (has_ended l c (e ∷ up)) (live home home_watched) ended)
+          | inr starts ↦
+              inl (ap (λ u. is_told l u c k) all
+              ∙ told_by_prefix l (e ∷ up) c k registered legal_all
+              (still_runs l e up c legal_all.0 (live home home_watched))
+              (covers_on up (e ∷ up) t.before after starts))
         ]
 
     -- an own write that is passed over
@@ -308,6 +350,38 @@ module _ (l : Limits) (x : Client) (past : List Entry) (home : Wire) (watched : 
           wrote = w.wrote;
         }
 
+    -- where its key is not signalled, nor dropped while it remembers it, it is told from then on
+    still_told : (e : Entry) (up : List Entry) → Older (e ∷ up) past
+        → AsAsked up → AsAsked (e ∷ up) → has_ended l (x.id home) (e ∷ up) ≡ false
+        → signals_key l e up (key_of h.query) ≡ false
+        → (remembers (table l up) (x.id home) (key_of h.query)
+        && drops_key l e up (key_of h.query)) ≡ false
+        → is_told l up (x.id home) (key_of h.query) ≡ true
+        → is_told l (e ∷ up) (x.id home) (key_of h.query) ≡ true
+    still_told e up older before after live unsignalled undropped told =
+        let c = x.id home in
+        let k = key_of h.query in
+        elim (cases_Bool (covers_key (mode l c (e ∷ up)) k)) [
+          | inl starts ↦
+              told_by_prefix l (e ∷ up) c k registered (legal_older (e ∷ up) older)
+              (still_runs l e up c (told_runs l up c k told) live) starts
+          | inr none ↦
+              let uncovered = ap (λ t. list_any (λ p. starts_with nat_eq k p) (prefixes_of t))
+              (settings up before ∙ sym (settings (e ∷ up) after)) ∙ none in
+              let held = told_remembers l up c k registered
+              (legal_older up (older_tail e up past older)) told uncovered in
+              let quiet = none_dropped (remembers (table l up) c k) (drops_key l e up k) held
+              undropped in
+              elim (cases_Bool (is_told l (e ∷ up) c k)) [
+                | inl still ↦ still
+                | inr gone ↦
+                    let cause = told_ends_for_cause l e up c k told gone in
+                    let stays = keeps_tracking l e up c
+                    (ap track.is_on (settings (e ∷ up) after) ∙ tracks) in
+                    absurd (let no : ⊥ = grind (arith, both_ways, or_from) in no)
+              ]
+        ]
+
     stays_or_told : (r : ℕ) → r < length past → AsAsked (up_to r past)
         → AsAsked (up_to (suc r) past)
         → ((w : Wire) → In w watched → has_ended l (x.id w) (up_to (suc r) past) ≡ false)
@@ -323,64 +397,36 @@ module _ (l : Limits) (x : Client) (past : List Entry) (home : Wire) (watched : 
         let up = n.up in
         let number = n.number in
         let is : length up + 1 ≡ suc r = omega (arith, number) in
+        let before : AsAsked up = subst AsAsked n.before good in
         let after : AsAsked (e ∷ up) = subst AsAsked n.after goods in
         let told_up : is_told l up c k ≡ true = ap (λ u. is_told l u c k) (sym n.before) ∙ told in
         let live = λ (w : Wire) (i : In w watched).
         ap (has_ended l (x.id w)) (sym n.after) ∙ lives w i in
-        let held = remembers (table l up) c k in
         let to = signals_key_to l e up c k in
-        let sig = signals_key l e up k in
-        let dropped = drops_key l e up k in
-        elim (to || (held && dropped)) as (λ b. (to || (held && dropped)) ≡ b
-        → ((is_told l (up_to (suc r) past) c k ≡ true) × (F.answer (suc r) ≡ F.answer r))
-        ⊎ (Lands IsGot T F (suc r) ⊎ Excused IsGot T F (suc r))) [
-          | true ↦ λ due.
+        let lost = remembers (table l up) c k && drops_key l e up k in
+        elim (cases_Bool (to || lost)) [
+          | inl due ↦
               inr (inl (subst (Lands IsGot T F) is
               (landed e up n.older (told_runs l up c k told_up)
-              (told_is_due l e up c k told_up due)
-              (subst AsAsked n.before good) after live)))
-          | false ↦ λ quiet.
-              let none = none_dropped to held dropped (told_remembers l up c k told_up) quiet in
-              elim sig as (λ b. sig ≡ b
-              → ((is_told l (up_to (suc r) past) c k ≡ true) × (F.answer (suc r) ≡ F.answer r))
-              ⊎ (Lands IsGot T F (suc r) ⊎ Excused IsGot T F (suc r))) [
-                | true ↦ λ signalled.
+              (told_is_due l e up c k told_up due) before after live)))
+          | inr quiet ↦
+              let none = or_parts to lost quiet in
+              elim (cases_Bool (signals_key l e up k)) [
+                | inl signalled ↦
                     inr (inr (subst (Excused IsGot T F) is
                     (excused e up n.older (own_write written l up c k e signalled none.0))))
-                | false ↦ λ unsignalled.
-                    inl (stays r n told_up after live unsignalled
-                    (neither sig dropped unsignalled none.1))
-              ] refl
-        ] refl
-      where
-        stays : (r : ℕ) (n : Next past r) → is_told l n.up (x.id home) (key_of h.query) ≡ true
-            → AsAsked (n.entry ∷ n.up)
-            → ((w : Wire) → In w watched → has_ended l (x.id w) (n.entry ∷ n.up) ≡ false)
-            → signals_key l n.entry n.up (key_of h.query) ≡ false
-            → (signals_key l n.entry n.up (key_of h.query)
-            || drops_key l n.entry n.up (key_of h.query)) ≡ false
-            → (is_told l (up_to (suc r) past) (x.id home) (key_of h.query) ≡ true)
-            × (F.answer (suc r) ≡ F.answer r)
-        stays r n told_up after live none quiet =
-            let c = x.id home in
-            let k = key_of h.query in
-            let e = n.entry in
-            let up = n.up in
-            elim (is_told l (e ∷ up) c k) as (λ b. is_told l (e ∷ up) c k ≡ b
-            → (is_told l (up_to (suc r) past) c k ≡ true) × (F.answer (suc r) ≡ F.answer r)) [
-              | true ↦ λ still.
-                  let same = (law l e up k none).1 h.query cacheable refl in (
-                    ap (λ u. is_told l u c k) n.after ∙ still,
-                    ap (λ a. carried x.setup.mode.proto (tree_of a))
-                        (ap (λ u. answer h.query (keyspace l u)) n.after ∙ same
-                        ∙ ap (λ u. answer h.query (keyspace l u)) (sym n.before)),
-                  )
-              | false ↦ λ gone.
-                  let cause = told_ends_for_cause l e up c k told_up gone in
-                  let stays = keeps_tracking l e up c (tracks (e ∷ up) after) in
-                  let lives_up = live home home_watched in
-                  absurd (let no : ⊥ = grind (arith, both_ways, or_from) in no)
-            ] refl
+                | inr unsignalled ↦
+                    let same = (law l e up k unsignalled).1 h.query cacheable refl in
+                    inl (
+                      ap (λ u. is_told l u c k) n.after
+                          ∙ still_told e up n.older before after (live home home_watched)
+                          unsignalled none.1 told_up,
+                      ap (λ a. carried x.setup.mode.proto (tree_of a))
+                          (ap (λ u. answer h.query (keyspace l u)) n.after ∙ same
+                          ∙ ap (λ u. answer h.query (keyspace l u)) (sym n.before)),
+                    )
+              ]
+        ]
 
     pub entry_laws_of : (at : ℕ)
         → (is_single x.setup.mode.shape ≡ true → (r j i : ℕ) (ws : List (List ℕ))

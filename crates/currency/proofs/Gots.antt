@@ -13,10 +13,10 @@ use Rattle.resp_value.specs.declared.value.Proto.TheVariants.{Three}
 use Rattle.serial_model.specs.declared.history.Limits.{Limits}
 use Rattle.serial_model.specs.declared.history.Entry.{Entry}
 use Rattle.serial_model.specs.declared.history.Entry.TheVariants.{Admit, Run, Tick, Take, Close}
-use Rattle.serial_model.specs.Tracking.{Invalidation, group, push_of}
+use Rattle.serial_model.specs.Tracking.{Invalidation, push_of}
 use Rattle.serial_model.specs.State.{is_live}
-use Rattle.serial_model.specs.Actions.{Sending, Message, End}
-use Rattle.serial_model.specs.Plain.{pushed, pushes, tests_before, tests_then, told_then}
+use Rattle.serial_model.specs.Actions.{Sending, Message, End, expiry_told, later_told}
+use Rattle.serial_model.specs.Plain.{pushed, pushes, tests_before, tests_then}
 use Rattle.serial_model.specs.History.{IsLegal, run_action, sends, sent_to, sent, state}
 use Rattle.serial_model.specs.History.{is_quit, tick_action}
 use Rattle.serial_model.proofs.PlainActions.{tick_sends}
@@ -128,13 +128,13 @@ sends_form l (Tick m) past h =
     let s = state l past in
     let t = tick_action m s in
     subst AllSent (sym (tick_sends l past m))
-    (form_append ((pushes (tests_before s) (group t.expired s.table) ++ [])
-    ++ pushes (tests_then t s) (told_then l t s)) []
-    (form_append (pushes (tests_before s) (group t.expired s.table) ++ [])
-    (pushes (tests_then t s) (told_then l t s))
-    (form_append (pushes (tests_before s) (group t.expired s.table)) []
-    (pushes_form (tests_before s) (group t.expired s.table)) none_form)
-    (pushes_form (tests_then t s) (told_then l t s)))
+    (form_append ((pushes (tests_before s) (expiry_told t s) ++ [])
+    ++ pushes (tests_then t s) (later_told l t s)) []
+    (form_append (pushes (tests_before s) (expiry_told t s) ++ [])
+    (pushes (tests_then t s) (later_told l t s))
+    (form_append (pushes (tests_before s) (expiry_told t s)) []
+    (pushes_form (tests_before s) (expiry_told t s)) none_form)
+    (pushes_form (tests_then t s) (later_told l t s)))
     none_form)
 sends_form l (Close id) past h = end_form (is_live ((state l past).standing id)) id
 sends_form l (Run id words m) past h =
@@ -146,9 +146,9 @@ sends_form l (Run id words m) past h =
     (form_append (early l past id words m ++ (id, reply_to l past id words m) ∷ [])
     (late l past id words m)
     (form_append (early l past id words m) ((id, reply_to l past id words m) ∷ [])
-    (pushes_form (tests_before s) (group t.expired s.table))
+    (pushes_form (tests_before s) (expiry_told t s))
     (one_form id (reply_to l past id words m) (reply_form l past id words m)))
-    (pushes_form (tests_then t s) (told_then l t s)))
+    (pushes_form (tests_then t s) (later_told l t s)))
     (end_form (is_quit words) id))
 sends_form l (Admit id) past h = none_form
 sends_form l (Take id max) past h = none_form

@@ -18,14 +18,11 @@ use Rattle.command_words.specs.HashWords.{hash_reading}
 use Rattle.command_words.specs.KeyWords.{key_reading}
 use Rattle.command_words.specs.ConnectionWords.{connection_reading}
 use Rattle.command_words.specs.ClientWords.{client_reading}
-use Rattle.command_words.specs.TrackingWords.{tracking}
 use Rattle.command_words.specs.Control.{is_control, reads_as_control}
 use Rattle.command_words.specs.Queries.{key_of}
 use Rattle.track_modes.specs.declared.fault.ModeFault.{ModeFault}
-use Rattle.track_modes.specs.declared.tracking.TrackMode.{TrackMode}
-use Rattle.track_modes.specs.declared.tracking.TrackMode.TheVariants as track
 use Rattle.track_modes.specs.declared.tracking.Tracking.{Tracking}
-use Rattle.track_modes.specs.declared.tracking.Tracking.TheVariants.{Off, On}
+use Rattle.track_modes.specs.declared.tracking.Tracking.TheVariants.{Off}
 use Rattle.track_modes.specs.Commands.{fault_at, is_no_memory, spent_mode}
 use Rattle.track_modes.specs.ModeState.{ModeState}
 use Rattle.track_modes.specs.Tracked.{caching_fault}
@@ -36,8 +33,6 @@ use Rattle.serial_model.specs.Modes.{Runner, own_effect, unless_refused}
 use Rattle.serial_model.specs.History.{mode, made_of, runner, runs_of, served, state}
 use Rattle.serial_model.proofs.Ends.{mode_by_own_runs}
 use Rattle.serial_model.proofs.ModeSteps.{mode_other, mode_own}
-use Rattle.shared_cache.specs.declared.log.Caching.{Caching}
-use Rattle.shared_cache.specs.declared.log.Caching.TheVariants.{Default, OptIn, OptOut, Bcast}
 use Rattle.shared_cache.specs.declared.log.ClientMode.{ClientMode}
 use Rattle.shared_cache.specs.declared.log.Wire.TheVariants.{Main}
 use Rattle.shared_cache.specs.declared.log.LogEntry.{LogEntry}
@@ -48,28 +43,18 @@ use Rattle.shared_cache.specs.declared.lead.CachingWord.TheVariants.{Yes, No}
 use Rattle.shared_cache.specs.Held.{Setup, SentCommand, Caller, sent, commands, caching_command}
 use Rattle.shared_cache.specs.Held.{held, held_for, is_read, led_by, put_ask, put_command}
 use Rattle.shared_cache.specs.Held.{read_lead, send_lead}
+use Rattle.shared_cache.specs.ClientFields.{IsOneLink}
 use Rattle.shared_cache.specs.Laws.{Every, LegalLog}
-use Rattle.shared_cache.specs.Log.{caching_on, caching_on_for, caching_words, noloop_words}
+use Rattle.shared_cache.specs.Log.{caching_on, caching_on_for}
 use Rattle.shared_cache.specs.Log.{is_told, put_step, put_tracking, steps_of, told_id}
 use Rattle.shared_cache.specs.Log.{tracking as asks_tracking}
 use Rattle.shared_cache.proofs.CommandLaws.{no_control}
 use Rattle.shared_cache.proofs.Every.{every_append}
 use Rattle.shared_cache.proofs.Led.{every_led}
-use Rattle.currency.specs.Links.{IsKeyMode, is_by_key}
+use Rattle.currency.proofs.TrackingCommand.{asked_tracking, track_made, with_tracking}
 use Rattle.currency.proofs.Lists.{get_front, get_last}
 
 -- ---- the settings of a connection
-
--- how a client asks to be tracked
-abbrev pub asked_track : Caching → TrackMode
-asked_track Default = track.Default
-asked_track OptIn = track.OptIn
-asked_track OptOut = track.OptOut
-asked_track (Bcast prefixes) = track.Bcast prefixes
-
-abbrev pub asked_tracking : ClientMode → Tracking
-asked_tracking m =
-    On (record { mode = asked_track m.caching; redirect = None; noloop = m.noloop })
 
 -- a mode of this protocol and this tracking
 pub record Has (proto : Proto) (tracking : Tracking) (m : ModeState) : Type 0 where
@@ -102,37 +87,13 @@ hello_made : (by : Runner) → by.mode.tracking ≡ Off
 unfolding made_of reading string_reading hash_reading key_reading connection_reading fault_at
 hello_made by off = record { proto_is = refl; tracking_is = off }
 
-abbrev with_tracking : Runner → Tracking → Runner
-with_tracking by t = record by { mode = record by.mode { tracking = t } }
-
-abbrev pub track_words : Caching → Bool → List (List ℕ)
-track_words c noloop =
-    codes "CLIENT" ∷ codes "TRACKING" ∷ codes "ON" ∷ (caching_words c ++ noloop_words noloop)
-
-track_made : (by : Runner) (c : Caching) (noloop : Bool) → is_by_key c ≡ true
-    → (made_of (track_words c noloop) (with_tracking by Off)).mode
-    ≡ record by.mode {
-      tracking = On (record { mode = asked_track c; redirect = None; noloop = noloop });
-      caching = false;
-    }
-unfolding made_of reading string_reading hash_reading key_reading connection_reading client_reading
-    tracking fault_at
-track_made by Default true h = refl
-track_made by Default false h = refl
-track_made by OptIn true h = refl
-track_made by OptIn false h = refl
-track_made by OptOut true h = refl
-track_made by OptOut false h = refl
-track_made by (Bcast prefixes) noloop h = absurd (let no : ⊥ = cc in no)
-
-tracking_made : (by : Runner) (m : ClientMode) → is_by_key m.caching ≡ true
-    → Has Three Off by.mode
+tracking_made : (by : Runner) (m : ClientMode) → Has Three Off by.mode
     → Has Three (asked_tracking m) (made_of (asks_tracking m []) by).mode
-tracking_made by m keys h =
+tracking_made by m h =
     let is : (made_of (asks_tracking m []) by).mode
     ≡ record by.mode { tracking = asked_tracking m; caching = false } =
     ap (λ t. (made_of (asks_tracking m []) (with_tracking by t)).mode) h.tracking_is
-    ∙ track_made by m.caching m.noloop keys in record {
+    ∙ track_made by m.caching m.noloop in record {
       proto_is = ap (λ (s : ModeState). s.proto) is ∙ h.proto_is;
       tracking_is = ap (λ (s : ModeState). s.tracking) is;
     }
@@ -232,7 +193,7 @@ behind_at (c ∷ cs) zero words a b e =
     let same : c.words ≡ words = cc in subst IsBehind same (behind_one c a.0 b.0)
 behind_at (c ∷ cs) (suc k) words a b e = behind_at cs k words a.1 b.1 e
 
-module _ (s : Setup) (key_mode : IsKeyMode s.mode) where
+module _ (s : Setup) (link : IsOneLink s.mode) where
   -- on one link the handshake is HELLO 3 and the tracking command
   pub plain_commands : (log : List LogEntry)
       → commands s Main log
@@ -241,10 +202,10 @@ module _ (s : Setup) (key_mode : IsKeyMode s.mode) where
   plain_commands log =
       ap (λ p. flat_map (put_step s.mode (is_told s.mode log) (told_id s.mode log))
       (steps_of Main s.mode.shape p) ++ map (λ (c : SentCommand). c.words) (sent s log))
-      key_mode.link.proto
+      link.proto
       ∙ ap (λ h. (codes "HELLO" ∷ codes "3" ∷ [])
       ∷ ((put_tracking h s.mode (is_told s.mode log) (told_id s.mode log) ++ [])
-      ++ map (λ (c : SentCommand). c.words) (sent s log))) key_mode.link.shape
+      ++ map (λ (c : SentCommand). c.words) (sent s log))) link.shape
 
   is_behind : (log : List LogEntry) → LegalLog s log → (k : ℕ) (words : List (List ℕ))
       → slice_get (commands s Main log) (suc (suc k)) ≡ Some words → IsBehind words
@@ -265,7 +226,7 @@ module _ (s : Setup) (key_mode : IsKeyMode s.mode) where
       = sym (ap (λ l. slice_get l 1) (plain_commands log)) ∙ e in
       let same : asks_tracking s.mode [] ≡ words = cc in
       subst (λ ws. Has Three (asked_tracking s.mode) (made_of ws by).mode) same
-      (tracking_made by s.mode key_mode.keys has)
+      (tracking_made by s.mode has)
   next_settings log h by (suc (suc k)) words e has =
       behind_made Three (asked_tracking s.mode) by words (is_behind log h k words e) has
 

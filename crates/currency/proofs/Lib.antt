@@ -3,6 +3,8 @@ pub mod Wires
 pub mod Runs
 pub mod Numbered
 pub mod Sent
+pub mod TrackingCommand
+pub mod Covers
 pub mod Handshake
 pub mod PushReplies
 pub mod Replies
@@ -14,6 +16,7 @@ pub mod Since
 pub mod Voids
 pub mod Placed
 pub mod Settled
+pub mod Accepted
 pub mod SentLaws
 pub mod EntryLaws
 pub mod OneLink

@@ -1,9 +1,12 @@
--- Where a client's fetch runs, what CLIENT CACHING said before it lets its read be remembered.
+-- Where a client's fetch runs, what CLIENT CACHING said before it lets its read be remembered, or
+-- the client has registered a prefix of its key.
 use Rattle.std.proofs.Common.{◌≡◌, ◌+◌, ◌-◌, ◌≤◌, ℕ, zero, suc, List, [], ◌∷◌, ◌++◌, length, true}
 use Rattle.std.proofs.Common.{false, refl, ap, sym, subst, ◌∙◌, arith, Some, None, cond, map, not}
-use Rattle.std.proofs.Common.{append-nil, length-append, Bool, Option, Result, inl}
+use Rattle.std.proofs.Common.{append-nil, length-append, Bool, Option, Result, ◌⊎◌, inl, inr}
+use Rattle.std.proofs.lemmas.Bool.{and_parts}
 use Rattle.std.proofs.lemmas.Option.{same_Some}
-use Rattle.std.specs.Prelude.{slice_get, ◌==◌, is_some}
+use Rattle.std.specs.List.{list_any, starts_with}
+use Rattle.std.specs.Prelude.{slice_get, ◌==◌, is_some, nat_eq}
 use Rattle.resp_value.specs.Lists.{IsPrefix}
 use Rattle.resp_value.specs.declared.value.Proto.TheVariants.{Three}
 use Rattle.command_words.specs.declared.command.Command.{Command}
@@ -17,7 +20,8 @@ use Rattle.command_words.specs.ClientWords.{client_reading}
 use Rattle.command_words.specs.TrackingWords.{tracking}
 use Rattle.command_words.specs.Control.{is_control, reads_as_control}
 use Rattle.command_words.specs.Queries.{key_of}
-use Rattle.track_modes.specs.ModeState.{ModeState, remembers_by, remembers_in, remembers_read}
+use Rattle.track_modes.specs.ModeState.{ModeState, prefixes_in, prefixes_of, remembers_by}
+use Rattle.track_modes.specs.ModeState.{remembers_in}
 use Rattle.track_modes.specs.Tracked.{caching_fault}
 use Rattle.serial_model.specs.declared.history.Limits.{Limits}
 use Rattle.serial_model.specs.declared.history.Entry.{Entry}
@@ -37,17 +41,19 @@ use Rattle.shared_cache.specs.declared.log.Shape.TheVariants.{Single}
 use Rattle.shared_cache.specs.declared.log.Wire.TheVariants.{Main}
 use Rattle.shared_cache.specs.Held.{Caller, SentCommand, Setup, caching_command, commands, held}
 use Rattle.shared_cache.specs.Held.{held_for, led_by, open_fetch, put_ask, read_lead, sent}
+use Rattle.shared_cache.specs.ClientFields.{IsOneLink}
 use Rattle.shared_cache.specs.Laws.{LegalLog}
-use Rattle.shared_cache.specs.Log.{caching_on_for, handshake_length, steps_of}
+use Rattle.shared_cache.specs.Log.{caching_on, caching_on_for, covers, handshake_length, steps_of}
 use Rattle.shared_cache.specs.Log.{tracking as asks_tracking}
 use Rattle.shared_cache.proofs.CommandLaws.{no_control}
 use Rattle.shared_cache.proofs.CommandLists.{commands_grow}
 use Rattle.shared_cache.proofs.FetchLaws.{mark_before_read, open_was_sent}
 use Rattle.shared_cache.proofs.Led.{at_length, own}
-use Rattle.currency.specs.Links.{IsKeyMode, is_by_key}
 use Rattle.currency.proofs.Asked.{older_legal}
-use Rattle.currency.proofs.Handshake.{Has, HasBy, asked, asked_track, asked_tracking, by_two}
-use Rattle.currency.proofs.Handshake.{plain_commands, track_words}
+use Rattle.currency.proofs.TrackingCommand.{asked_mode, asked_tracking, bcast_reads, refusal}
+use Rattle.currency.proofs.TrackingCommand.{track_words, tracked_by}
+use Rattle.currency.proofs.Covers.{IsToldOf, registered_covers}
+use Rattle.currency.proofs.Handshake.{Has, HasBy, asked, by_two, plain_commands}
 use Rattle.currency.proofs.Lists.{every_at, get_front, get_last, get_map, prefix_more}
 
 -- ---- the Run before
@@ -98,16 +104,17 @@ plain_marks_none : (words : List (List ℕ)) (m : ModeState) → is_control word
 unfolding is_control
 plain_marks_none words m h = not_caching (reading words) m h
 
-tracking_marks_none : (c : Caching) (noloop : Bool) (m : ModeState) → is_by_key c ≡ true
+tracking_marks_none : (c : Caching) (noloop : Bool) (m : ModeState)
     → sets_caching (reading (track_words c noloop)) m ≡ false
 unfolding reading string_reading hash_reading key_reading connection_reading client_reading tracking
-tracking_marks_none Default true m h = refl
-tracking_marks_none Default false m h = refl
-tracking_marks_none OptIn true m h = refl
-tracking_marks_none OptIn false m h = refl
-tracking_marks_none OptOut true m h = refl
-tracking_marks_none OptOut false m h = refl
-tracking_marks_none (Bcast prefixes) noloop m h = absurd (let no : ⊥ = cc in no)
+tracking_marks_none Default true m = refl
+tracking_marks_none Default false m = refl
+tracking_marks_none OptIn true m = refl
+tracking_marks_none OptIn false m = refl
+tracking_marks_none OptOut true m = refl
+tracking_marks_none OptOut false m = refl
+tracking_marks_none (Bcast prefixes) noloop m =
+    ap (λ read. sets_caching read m) (bcast_reads prefixes noloop)
 
 yes_marks : (m : ModeState) → caching_fault true m.tracking ≡ None
     → sets_caching (reading (caching_command Yes).words) m ≡ true
@@ -172,10 +179,10 @@ commands_later s one (e ∷ later) log =
     (commands s Main (e ∷ (later ++ log))) (commands_later s one later log)
     (commands_grow s Main e (later ++ log) (inl one))
 
-module _ (s : Setup) (key_mode : IsKeyMode s.mode) (log : List LogEntry) (legal : LegalLog s log)
+module _ (s : Setup) (link : IsOneLink s.mode) (log : List LogEntry) (legal : LegalLog s log)
     (n : ℕ) (q : List (List ℕ)) (fetch : open_fetch s log n ≡ Some q) where
   two_first : handshake_length s.mode ≡ 2
-  two_first = ap (λ p. length (steps_of Main s.mode.shape p)) key_mode.link.proto
+  two_first = ap (λ p. length (steps_of Main s.mode.shape p)) link.proto
 
   -- the last command of a log with so many behind the handshake
   last_marks_none : (sooner : List LogEntry) → LegalLog s sooner → (j : ℕ)
@@ -184,15 +191,15 @@ module _ (s : Setup) (key_mode : IsKeyMode s.mode) (log : List LogEntry) (legal 
       → (m : ModeState) → sets_caching (reading words) m ≡ false
   last_marks_none sooner before zero count words there m =
       let second : Some (asks_tracking s.mode []) ≡ Some words =
-      sym (ap (λ l. slice_get l 1) (plain_commands s key_mode sooner)) ∙ there in
+      sym (ap (λ l. slice_get l 1) (plain_commands s link sooner)) ∙ there in
       ap (λ ws. sets_caching (reading ws) m)
       (sym (same_Some (asks_tracking s.mode []) words second))
-      ∙ tracking_marks_none s.mode.caching s.mode.noloop m key_mode.keys
+      ∙ tracking_marks_none s.mode.caching s.mode.noloop m
   last_marks_none sooner before (suc k) count words there m =
       let last = last_sent s sooner k count in
       let is : Some last.command.words ≡ Some words =
       sym (get_map (λ (c : SentCommand). c.words) (sent s sooner) k last.command last.there)
-      ∙ sym (ap (λ l. slice_get l (suc (suc k))) (plain_commands s key_mode sooner)) ∙ there in
+      ∙ sym (ap (λ l. slice_get l (suc (suc k))) (plain_commands s link sooner)) ∙ there in
       let plain = every_at
       (λ (c : SentCommand). c.origin ≡ Caller → is_control c.words ≡ false)
       (sent s sooner) k last.command (no_control s sooner before) last.there last.caller in
@@ -214,15 +221,15 @@ module _ (s : Setup) (key_mode : IsKeyMode s.mode) (log : List LogEntry) (legal 
       let place : n - 2 ≡ suc j = omega (arith, w.number_is, one, two_first) in
       let more = prefix_more (commands s Main w.sooner) (commands s Main (entry.Ask q ∷ w.sooner))
       (commands s Main (w.later ++ entry.Ask q ∷ w.sooner))
-      (commands_grow s Main (entry.Ask q) w.sooner (inl key_mode.link.shape))
-      (commands_later s key_mode.link.shape w.later (entry.Ask q ∷ w.sooner)) in
+      (commands_grow s Main (entry.Ask q) w.sooner (inl link.shape))
+      (commands_later s link.shape w.later (entry.Ask q ∷ w.sooner)) in
       let all : slice_get (commands s Main w.sooner ++ more.0) (suc j) ≡ Some words =
       ap (λ cs. slice_get cs (suc j)) more.1
       ∙ ap (λ g. slice_get (commands s Main g) (suc j)) (sym w.log_is)
       ∙ ap (slice_get (commands s Main log)) (sym place) ∙ there in
       last_marks_none w.sooner before j refl words
       (within (commands s Main w.sooner) more.0 (suc j) words
-      (let count = ap (λ l. length l) (plain_commands s key_mode w.sooner) in
+      (let count = ap (λ l. length l) (plain_commands s link w.sooner) in
       omega (arith, count, length_map (sent s w.sooner))) all) m
     where
       within : (xs ys : List (List (List ℕ))) (i : ℕ) (x : List (List ℕ)) → suc i ≤ length xs
@@ -278,12 +285,12 @@ module _ (s : Setup) (key_mode : IsKeyMode s.mode) (log : List LogEntry) (legal 
 
     marked : s.mode.caching ≡ OptIn → (mode l c up).caching ≡ true
     marked opt =
-        let m = mark_before_read s log n q opt (inl key_mode.link.shape) fetch in
+        let m = mark_before_read s log n q opt (inl link.shape) fetch in
         let words : before.words ≡ (caching_command Yes).words =
         same_Some before.words (caching_command Yes).words (sym there ∙ m.1) in
         let four = behind_two opt in
         let has : HasBy s.mode (length (runs_of c before.sooner)) (mode l c before.sooner) =
-        asked s key_mode l c log legal before.sooner ran_before in
+        asked s link l c log legal before.sooner ran_before in
         let settings = by_two s.mode (length (runs_of c before.sooner)) (mode l c before.sooner)
         (omega (arith, place_before, four)) has in
         mark_is
@@ -292,17 +299,31 @@ module _ (s : Setup) (key_mode : IsKeyMode s.mode) (log : List LogEntry) (legal 
         (ap (caching_fault true)
         (settings.tracking_is ∙ ap (λ k. asked_tracking (record s.mode { caching = k })) opt))
 
-    by_mode : (k : Caching) → s.mode.caching ≡ k → is_by_key k ≡ true
-        → remembers_in (mode l c up).caching (asked_track k) ≡ true
-    by_mode Default is keys = refl
-    by_mode OptIn is keys = marked is
-    by_mode OptOut is keys =
-        ap not (mark_is ∙ unmarked is before.words there (mode l c before.sooner))
-    by_mode (Bcast prefixes) is keys = absurd (let no : ⊥ = cc in no)
+    covered : covers s.mode.caching (key_of q) ≡ true
+    covered =
+        let w = open_was_sent s log n q fetch in
+        (and_parts (caching_on s.mode w.sooner) (covers s.mode.caching (key_of q)) w.on).1
 
-    -- so its read is remembered
-    pub fetch_remembered : Has Three (asked_tracking s.mode) (mode l c up)
-        → remembers_read (mode l c up) ≡ true
-    fetch_remembered has =
-        ap (remembers_by (mode l c up).caching) has.tracking_is
-        ∙ by_mode s.mode.caching refl key_mode.keys
+    by_mode : (k : Caching) → s.mode.caching ≡ k
+        → (remembers_in (mode l c up).caching (asked_mode k) ≡ true)
+        ⊎ (list_any (starts_with nat_eq (key_of q)) (prefixes_in (asked_mode k)) ≡ true)
+    by_mode Default is = inl refl
+    by_mode OptIn is = inl (marked is)
+    by_mode OptOut is =
+        inl (ap not (mark_is ∙ unmarked is before.words there (mode l c before.sooner)))
+    by_mode (Bcast prefixes) is =
+        inr (registered_covers prefixes (key_of q) ∙ ap (λ k. covers k (key_of q)) (sym is)
+        ∙ covered)
+
+    -- so its read is remembered, or a prefix of its key is registered
+    pub fetch_told_of : Has Three (asked_tracking s.mode) (mode l c up)
+        → refusal s.mode.caching ≡ None → IsToldOf (mode l c up) (key_of q)
+    fetch_told_of has accepted =
+        let tracking = has.tracking_is
+        ∙ ap (λ r. tracked_by r s.mode.caching s.mode.noloop) accepted in
+        elim (by_mode s.mode.caching refl) [
+          | inl reads ↦ inl (ap (remembers_by (mode l c up).caching) tracking ∙ reads)
+          | inr starts ↦
+              inr (ap (λ t. list_any (starts_with nat_eq (key_of q)) (prefixes_of t)) tracking
+              ∙ starts)
+        ]

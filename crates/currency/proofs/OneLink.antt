@@ -1,7 +1,6 @@
--- One link, tracked key by key, is an instance of the theorem over any wires.
-use Rattle.std.proofs.Common.{◌≡◌, ◌+◌, ◌-◌, ◌<◌, ◌⊎◌, ℕ, suc, List, [], ◌∷◌, ◌++◌, length, true}
-use Rattle.std.proofs.Common.{false, refl, ap, sym, ◌∙◌, arith, Some, subst, inl, inr, drop}
-use Rattle.std.proofs.Common.{append-nil, append_assoc}
+-- One link is an instance of the theorem over any wires.
+use Rattle.std.proofs.Common.{◌≡◌, ◌+◌, ◌-◌, ◌<◌, ◌⊎◌, ℕ, suc, List, [], ◌∷◌, length, true}
+use Rattle.std.proofs.Common.{false, refl, ap, sym, ◌∙◌, arith, Some, None, subst, inl, inr, drop}
 use Rattle.std.specs.Prelude.{slice_get}
 use Rattle.std.specs.List.{filter}
 use Rattle.std.proofs.lemmas.List.{length-reverse}
@@ -21,16 +20,18 @@ use Rattle.serial_model.specs.declared.history.Entry.{Entry}
 use Rattle.serial_model.specs.declared.history.Entry.TheVariants.{Run}
 use Rattle.serial_model.specs.History.{IsLegal, Message, Sending, keyspace, mode, run_entries}
 use Rattle.serial_model.specs.History.{runs_of, runs_on, sent, served_reading}
-use Rattle.serial_model.specs.Laws.{BeforeTheReply, ChangeIsSignalled, is_due}
+use Rattle.serial_model.specs.Laws.{BeforeTheReply, ChangeIsSignalled, RegisteredIsMode, is_due}
 use Rattle.serial_model.specs.Laws.{is_told}
 use Rattle.serial_model.specs.Tracking.{push_of}
+use Rattle.shared_cache.specs.ClientFields.{IsOneLink}
 use Rattle.shared_cache.specs.Held.{commands, held}
 use Rattle.shared_cache.specs.Laws.{IsFetch, LegalLog, gots}
 use Rattle.shared_cache.specs.Log.{is_ended, replies}
 use Rattle.shared_cache.specs.Notices.{invalidates, is_reply, kind_of}
 use Rattle.shared_cache.specs.declared.entry.CacheEntry.{CacheEntry}
+use Rattle.shared_cache.specs.declared.log.ClientMode.{ClientMode}
 use Rattle.shared_cache.specs.declared.log.LogEntry.{LogEntry}
-use Rattle.shared_cache.specs.declared.log.LogEntry.TheVariants.{Ask, Got}
+use Rattle.shared_cache.specs.declared.log.LogEntry.TheVariants.{Ask}
 use Rattle.shared_cache.specs.declared.log.Wire.{Wire}
 use Rattle.shared_cache.specs.declared.log.Wire.TheVariants.{Main}
 use Rattle.shared_cache.proofs.CommandLaws.{no_later_write}
@@ -42,39 +43,34 @@ use Rattle.wire_currency.specs.Fetch.{Handshake, Lands, LogLaws, ToldOn}
 use Rattle.wire_currency.specs.Current as wires
 use Rattle.wire_currency.proofs.Currency as theorem
 use Rattle.wire_currency.proofs.Replies.{run_is_command}
-use Rattle.currency.specs.Links.{Client, HasWire, IsGot, IsKeyMode, Meet, is_reply_sent, is_single}
+use Rattle.currency.specs.Links.{Client, HasWire, IsGot, Meet, is_reply_sent, is_single}
 use Rattle.currency.specs.Links.{run_of, traffic_of, up_to, wires_of}
 use Rattle.currency.specs.Current.{Currency, HasPoint, IsCurrent, fetch_of}
+use Rattle.currency.proofs.Accepted.{not_refused_of}
 use Rattle.currency.proofs.Ahead.{told_ahead}
 use Rattle.currency.proofs.Asked.{asked_query, query_reads, query_served}
 use Rattle.currency.proofs.EntryLaws.{Read, entry_laws_of, told_runs}
-use Rattle.currency.proofs.Handshake.{Has, asked_tracking}
+use Rattle.currency.proofs.Handshake.{Has}
 use Rattle.currency.proofs.Lists.{every_at, get_drop}
-use Rattle.currency.proofs.Marks.{fetch_remembered}
+use Rattle.currency.proofs.Marks.{fetch_told_of}
 use Rattle.currency.proofs.Placed.{reply_place}
 use Rattle.currency.proofs.Runs.{Older, older_legal, older_tail, older_up_to, ran_at}
 use Rattle.currency.proofs.Runs.{up_to_older}
 use Rattle.currency.proofs.Sent.{Told, lands, sent_older}
 use Rattle.currency.proofs.SentLaws.{sent_laws_of}
 use Rattle.currency.proofs.Settled.{before_then, number_least, r, ran_by_then, ran_older, settled}
-use Rattle.currency.proofs.Since.{place_later, spared_since}
+use Rattle.currency.proofs.Since.{gots_prefix, place_later, spared_since}
+use Rattle.currency.proofs.TrackingCommand.{asked_tracking, refusal, tracked_by}
 use Rattle.currency.proofs.Voids.{voids}
 use Rattle.currency.proofs.Wires.{has_main, only_main}
 
 -- ---- the log
 
-gots_prefix : (later log : List LogEntry) → IsPrefix (gots Main log) (gots Main (later ++ log))
-gots_prefix [] log = ([], append-nil (gots Main log))
-gots_prefix (Got Main v ∷ later) log =
-    let r = gots_prefix later log in
-    (r.0 ++ v ∷ [], sym (append_assoc (gots Main log) r.0 (v ∷ [])) ∙ ap (λ vs. vs ++ v ∷ []) r.1)
-gots_prefix (e ∷ later) log = gots_prefix later log
-
 module _ (l : Limits) (x : Client) (past : List Entry) (log : List LogEntry)
-    (key_mode : IsKeyMode x.setup.mode) (legal_log : LegalLog x.setup log) (h : CacheEntry)
+    (link : IsOneLink x.setup.mode) (legal_log : LegalLog x.setup log) (h : CacheEntry)
     (is : IsFetch x.setup log h) where
   only : (w : Wire) → HasWire x.setup.mode.shape w → Main ≡ w
-  only = only_main x.setup.mode.shape key_mode.link.shape
+  only = only_main x.setup.mode.shape link.shape
 
   unwritten : (j : ℕ) (ws : List (List ℕ)) → h.number - 1 < j
       → slice_get (commands x.setup Main log) j ≡ Some ws → writes ws (key_of h.query) ≡ false
@@ -136,7 +132,7 @@ module _ (l : Limits) (x : Client) (past : List Entry) (log : List LogEntry)
         no_later_write = unwritten;
         no_later_reply =
             λ apart. absurd (let none : true ≡ false =
-            ap is_single (sym key_mode.link.shape) ∙ apart in
+            ap is_single (sym link.shape) ∙ apart in
             let no : ⊥ = cc in no);
       }
 
@@ -145,12 +141,13 @@ module _ (l : Limits) (x : Client) (past : List Entry) (log : List LogEntry)
 abbrev pub AsAsked : Limits → Client → List Entry → Type 0
 AsAsked l x up = Has Three (asked_tracking x.setup.mode) (mode l (x.id Main) up)
 
-tracks : (l : Limits) (x : Client) (up : List Entry) → AsAsked l x up
-    → track.is_on (mode l (x.id Main) up).tracking ≡ true
-tracks l x up asked = ap track.is_on asked.tracking_is
+-- where its command is not refused, that tracks
+asked_is_on : (m : ClientMode) → refusal m.caching ≡ None → track.is_on (asked_tracking m) ≡ true
+asked_is_on m accepted = ap (λ r. track.is_on (tracked_by r m.caching m.noloop)) accepted
 
 module _ (l : Limits) (x : Client) (past : List Entry) (h : CacheEntry)
-    (cacheable : reads_as_cacheable (reading h.query) ≡ true) (legal : IsLegal l past) where
+    (cacheable : reads_as_cacheable (reading h.query) ≡ true) (legal : IsLegal l past)
+    (accepted : refusal x.setup.mode.caching ≡ None) where
   -- a push of the key is got as one
   told_on : (r : ℕ) (up : List Entry) → Older up past
       → (t : Told (x.id Main) l up r (key_of h.query))
@@ -215,7 +212,7 @@ module _ (l : Limits) (x : Client) (past : List Entry) (h : CacheEntry)
             let a = told_ahead c l past t.up t.id t.words t.moment t.older run_legal.0 k early
             (told_runs l t.up c k (ap (λ u. is_told l u c k) (sym up_is) ∙ told))
             (ap (λ u. track.is_on (mode l c u).tracking) (sym up_is)
-            ∙ tracks l x (up_to r past) good)
+            ∙ ap track.is_on good.tracking_is ∙ asked_is_on x.setup.mode accepted)
             (ap (λ u. (mode l c u).proto) (sym up_is) ∙ good.proto_is) i s
             sent_there (number ∙ sym n) is_reply in
             inr (subst (λ m. (t : ToldOn IsGot (traffic_of l x past) (fetch_of l x past h) Main m)
@@ -225,37 +222,40 @@ module _ (l : Limits) (x : Client) (past : List Entry) (h : CacheEntry)
 -- ---- the handshake, and the theorem
 
 module _ (l : Limits) (x : Client) (past : List Entry) (log : List LogEntry)
-    (key_mode : IsKeyMode x.setup.mode) (legal : IsLegal l past) (legal_log : LegalLog x.setup log)
+    (link : IsOneLink x.setup.mode) (legal : IsLegal l past) (legal_log : LegalLog x.setup log)
     (meet : Meet l x past log) (h : CacheEntry) (is : IsFetch x.setup log h)
     (serves : reads_as_cacheable (served_reading h.query) ≡ true)
     (cacheable : reads_as_cacheable (reading h.query) ≡ true) where
+  accepted : refusal x.setup.mode.caching ≡ None
+  accepted = not_refused_of l x past log link legal legal_log meet h.number h.query is.fetch
+
   handshake : (at : ℕ) → run_of (x.id Main) past h.number ≡ Some at
       → Handshake (length past) (λ n. AsAsked l x (up_to n past))
       (Read l x past Main h (AsAsked l x)) at
   handshake at ran =
-      let run = r l x past log key_mode legal legal_log meet h.number at h.query is.fetch ran in
+      let run = r l x past log link legal legal_log meet h.number at h.query is.fetch ran in
       let tail = older_tail (Run run.id run.words run.moment) run.up past run.older in
       let good =
-      settled l x past log key_mode legal legal_log meet h.number at h.query is.fetch ran run.up
+      settled l x past log link legal legal_log meet h.number at h.query is.fetch ran run.up
       tail
-      (before_then l x past log key_mode legal legal_log meet h.number at h.query is.fetch ran) in
+      (before_then l x past log link legal legal_log meet h.number at h.query is.fetch ran) in
       record {
         as_asked =
             λ n from le. let o = up_to_older n past le in
             let number = o.1 in
-            settled l x past log key_mode legal legal_log meet h.number at h.query is.fetch ran
+            settled l x past log link legal legal_log meet h.number at h.query is.fetch ran
             (up_to n past) o.0
-            (ran_by_then l x past log key_mode legal legal_log meet h.number at h.query is.fetch ran
+            (ran_by_then l x past log link legal legal_log meet h.number at h.query is.fetch ran
             (up_to n past) o.0 (omega (arith, number, from)));
         remembered = record {
           run = run;
           before = good;
-          remembers =
-              fetch_remembered x.setup key_mode log legal_log h.number h.query is.fetch l
-              (x.id Main) run.up (ran_older l x past log key_mode legal legal_log meet run.up tail)
+          told_of =
+              fetch_told_of x.setup link log legal_log h.number h.query is.fetch l
+              (x.id Main) run.up (ran_older l x past log link legal legal_log meet run.up tail)
               run.place_is
-              (number_least l x past log key_mode legal legal_log meet h.number at h.query is.fetch
-              ran) good;
+              (number_least l x past log link legal legal_log meet h.number at h.query is.fetch
+              ran) good accepted;
         };
       }
 
@@ -265,22 +265,24 @@ module _ (l : Limits) (x : Client) (past : List Entry) (log : List LogEntry)
       let r = reply_place h.number (replies x.setup.mode Main log) h.value is.reply_is in
       ap (λ vs. slice_get vs (h.number - 1)) (sym (replies_are_gots x.setup Main log)) ∙ r.1
 
-  both : ChangeIsSignalled → BeforeTheReply → SignalsAreWritten
+  both : ChangeIsSignalled → BeforeTheReply → SignalsAreWritten → RegisteredIsMode
       → IsCurrent l x past log h
       × wires.HasPoint (traffic_of l x past) (fetch_of l x past h) log h.value
-  both law first written =
+  both law first written registered =
       theorem.currency IsGot (λ n. AsAsked l x (up_to n past)) (Read l x past Main h (AsAsked l x))
       (traffic_of l x past) (fetch_of l x past h) log meet
-      (log_laws l x past log key_mode legal_log h is) (sent_laws_of l x past legal)
+      (log_laws l x past log link legal_log h is) (sent_laws_of l x past legal)
       (λ at ran. (
         entry_laws_of l x past Main (wires_of x.setup.mode.shape) (has_main x.setup.mode.shape)
             legal h serves cacheable (AsAsked l x)
-            (tracks l x) (λ up good. good.proto_is ∙ sym key_mode.link.proto)
+            (asked_tracking x.setup.mode) (asked_is_on x.setup.mode accepted)
+            (λ up good. good.tracking_is) (λ up good. good.proto_is ∙ sym link.proto)
             (λ e up o on due before after lives.
-            due_lands l x past h cacheable legal e up o on due before after) law written at
+            due_lands l x past h cacheable legal accepted e up o on due before after)
+            law written registered at
             (λ alone r j i ws s le lt good told e there unwrote at_place number is_reply.
-            ahead_or_same l x past h cacheable legal first r j i ws s good told e there unwrote
-            at_place number is_reply),
+            ahead_or_same l x past h cacheable legal accepted first r j i ws s good told e there
+            unwrote at_place number is_reply),
         handshake at ran,
       ))
       h.value replied_at
@@ -310,10 +312,10 @@ module _ (l : Limits) (x : Client) (past : List Entry) (log : List LogEntry)
         ),
       )
 
-  pub on_one_link : ChangeIsSignalled → BeforeTheReply → SignalsAreWritten
+  pub on_one_link : ChangeIsSignalled → BeforeTheReply → SignalsAreWritten → RegisteredIsMode
       → IsCurrent l x past log h × HasPoint l x past log h
-  on_one_link law first written =
-      let b = both law first written in
+  on_one_link law first written registered =
+      let b = both law first written registered in
       let p = b.1 in
       let f = fetch_ran p.fetched p.ran in (
         b.0,
@@ -329,12 +331,12 @@ module _ (l : Limits) (x : Client) (past : List Entry) (log : List LogEntry)
         },
       )
 
-pub currency : ChangeIsSignalled → BeforeTheReply → SignalsAreWritten → Currency
-currency law first written l x past log key_mode legal legal_log meet =
+pub currency : ChangeIsSignalled → BeforeTheReply → SignalsAreWritten → RegisteredIsMode → Currency
+currency law first written registered l x past log link legal legal_log meet =
     every_weaker (IsFetch x.setup log)
     (λ h. IsCurrent l x past log h × HasPoint l x past log h) (held x.setup log)
     (λ h fetch.
     let query = asked_query x.setup log h.number h.query legal_log fetch.fetch in
-    on_one_link l x past log key_mode legal legal_log meet h fetch (query_served h.query query)
-    (query_reads h.query query) law first written)
+    on_one_link l x past log link legal legal_log meet h fetch (query_served h.query query)
+    (query_reads h.query query) law first written registered)
     (held_is_fetch x.setup log)

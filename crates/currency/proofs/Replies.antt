@@ -19,10 +19,11 @@ use Rattle.serial_model.specs.declared.history.Limits.{Limits}
 use Rattle.serial_model.specs.declared.history.Entry.{Entry}
 use Rattle.serial_model.specs.declared.history.Entry.TheVariants.{Admit, Run, Tick, Take, Close}
 use Rattle.serial_model.specs.Modes.{Runner, accepted, hello_reply, pong}
-use Rattle.serial_model.specs.Tracking.{Invalidation, group}
+use Rattle.serial_model.specs.Tracking.{Invalidation}
 use Rattle.serial_model.specs.State.{is_live}
-use Rattle.serial_model.specs.Actions.{Action, End, Message, Sending, replies, to_one}
-use Rattle.serial_model.specs.Plain.{pushed, pushes, tests_before, tests_then, told_then}
+use Rattle.serial_model.specs.Actions.{Action, End, Message, Sending, expiry_told, later_told}
+use Rattle.serial_model.specs.Actions.{replies, to_one}
+use Rattle.serial_model.specs.Plain.{pushed, pushes, tests_before, tests_then}
 use Rattle.serial_model.specs.History.{IsLegal, effect_in, effect_of, is_quit, is_served, made}
 use Rattle.serial_model.specs.History.{ran, ran_over, run_action, runs_on, sends, sent, sent_to}
 use Rattle.serial_model.specs.History.{served, state}
@@ -131,10 +132,10 @@ module _ (l : Limits) (past : List Entry) (id : ℕ) (words : List (List ℕ)) (
   t = run_action id words m (state l past)
 
   abbrev pub early : List (ℕ × Sending)
-  early = pushes (tests_before (state l past)) (group t.expired (state l past).table)
+  early = pushes (tests_before (state l past)) (expiry_told t (state l past))
 
   abbrev pub late : List (ℕ × Sending)
-  late = pushes (tests_then t (state l past)) (told_then l t (state l past))
+  late = pushes (tests_then t (state l past)) (later_told l t (state l past))
 
   -- a connection that quits is sent its end last
   abbrev pub ending : List (ℕ × Sending)

@@ -74,6 +74,11 @@ older_up_to up past o =
     (grind (arith, length-append))
     ∙ ap (drop (length o.newer)) (sym o.is) ∙ drop_front o.newer up
 
+-- two of one length are the same
+pub same_older : (past a b : List Entry) → Older a past → Older b past → length a ≡ length b → a ≡ b
+same_older past a b o m e =
+    sym (older_up_to a past o) ∙ ap (λ n. up_to n past) e ∙ older_up_to b past m
+
 pub older_legal : (l : Limits) (newer up : List Entry) → IsLegal l (newer ++ up) → IsLegal l up
 older_legal l [] up h = h
 older_legal l (Admit id ∷ newer) up h = older_legal l newer up h.1

@@ -16,13 +16,15 @@ use Rattle.command_words.specs.Queries.{key_of}
 use Rattle.shared_cache.specs.Log.{steps_of, handshake_length, caching_on_for}
 use Rattle.shared_cache.specs.Held.{commands, open_fetch, read_lead}
 use Rattle.shared_cache.proofs.Led.{led_some}
+use Rattle.shared_cache.specs.ClientFields.{IsOneLink}
 use Rattle.shared_cache.specs.Laws.{LegalLog}
 use Rattle.shared_cache.proofs.FetchLaws.{open_was_sent}
-use Rattle.currency.specs.Links.{Client, IsKeyMode, Meet, run_of}
+use Rattle.currency.specs.Links.{Client, Meet, run_of}
 use Rattle.currency.proofs.Wires.{has_main}
 use Rattle.currency.proofs.Runs.{Older, older_tail, older_within}
 use Rattle.currency.proofs.Runs.{runs_older, RanAt, ran_at}
-use Rattle.currency.proofs.Handshake.{Has, asked, asked_tracking, by_two}
+use Rattle.currency.proofs.TrackingCommand.{asked_tracking}
+use Rattle.currency.proofs.Handshake.{Has, asked, by_two}
 use Rattle.currency.proofs.Lists.{prefix_more}
 
 prefix_le : {A : Type 0} (xs ys : List A) → IsPrefix xs ys → length xs ≤ length ys
@@ -33,7 +35,7 @@ more_length : (e : Entry) (up all : List Entry) → length up + 1 ≤ length all
 more_length e up all h = omega (arith, h)
 
 module _ (l : Limits) (x : Client) (past : List Entry) (log : List LogEntry)
-    (key_mode : IsKeyMode x.setup.mode) (legal : IsLegal l past) (legal_log : LegalLog x.setup log)
+    (link : IsOneLink x.setup.mode) (legal : IsLegal l past) (legal_log : LegalLog x.setup log)
     (meet : Meet l x past log) where
   pub ran_older : (up : List Entry) → Older up past
       → IsPrefix (runs_of (x.id Main) up) (commands x.setup Main log)
@@ -50,7 +52,7 @@ module _ (l : Limits) (x : Client) (past : List Entry) (log : List LogEntry)
     number_least =
         let w = open_was_sent x.setup log n q fetch in
         let two : handshake_length x.setup.mode ≡ 2
-        = ap (λ p. length (steps_of Main x.setup.mode.shape p)) key_mode.link.proto in
+        = ap (λ p. length (steps_of Main x.setup.mode.shape p)) link.proto in
         omega (
           arith,
           two,
@@ -65,7 +67,7 @@ module _ (l : Limits) (x : Client) (past : List Entry) (log : List LogEntry)
         → Has Three (asked_tracking x.setup.mode) (mode l (x.id Main) up)
     settled up o two =
         by_two x.setup.mode (length (runs_of (x.id Main) up)) (mode l (x.id Main) up) two
-        (asked x.setup key_mode l (x.id Main) log legal_log up (ran_older up o))
+        (asked x.setup link l (x.id Main) log legal_log up (ran_older up o))
 
     -- the fetch's own Run, with the connection's id
     pub own : Older (Run (x.id Main) r.words r.moment ∷ r.up) past

@@ -1,6 +1,6 @@
 -- What was got after a fetch was sent.
 use Rattle.std.proofs.Common.{◌≡◌, ◌-◌, ◌<◌, ◌≤◌, ℕ, List, [], ◌∷◌, ◌++◌, length, false, ap, sym}
-use Rattle.std.proofs.Common.{◌∙◌, arith, Some, ◌⊎◌, inl, inr}
+use Rattle.std.proofs.Common.{◌∙◌, arith, Some, ◌⊎◌, inl, inr, append-nil, append_assoc}
 use Rattle.std.proofs.lemmas.Bool.{or_parts}
 use Rattle.std.specs.Prelude.{slice_get}
 use Rattle.std.proofs.lemmas.Option.{slice_get_within}
@@ -17,8 +17,17 @@ use Rattle.shared_cache.specs.Held.{commands, sent, read_lead, outdates}
 use Rattle.shared_cache.specs.Laws.{gots, Spared, WasSent}
 use Rattle.shared_cache.proofs.Handshakes.{handshake_within, put_count}
 use Rattle.shared_cache.proofs.Led.{led_some}
+use Rattle.wire_currency.specs.Traffic.{IsPrefix}
 use Rattle.currency.specs.Links.{Client}
 use Rattle.currency.proofs.Lists.{get_parts, get_one}
+
+-- what had been got is the first of what was got later
+pub gots_prefix : (later log : List LogEntry) → IsPrefix (gots Main log) (gots Main (later ++ log))
+gots_prefix [] log = ([], append-nil (gots Main log))
+gots_prefix (Got Main v ∷ later) log =
+    let r = gots_prefix later log in
+    (r.0 ++ v ∷ [], sym (append_assoc (gots Main log) r.0 (v ∷ [])) ∙ ap (λ vs. vs ++ v ∷ []) r.1)
+gots_prefix (e ∷ later) log = gots_prefix later log
 
 module _ (l : Limits) (x : Client) (past : List Entry) where
   -- a value that was got after the fetch was sent, at a place, is spared

@@ -16,13 +16,13 @@ use Rattle.shared_cache.specs.declared.log.Wire.{Wire}
 use Rattle.shared_cache.specs.declared.log.Wire.TheVariants.{Main}
 use Rattle.shared_cache.specs.declared.log.LogEntry.{LogEntry}
 use Rattle.shared_cache.specs.declared.entry.CacheEntry.{CacheEntry}
+use Rattle.shared_cache.specs.ClientFields.{IsOneLink}
 use Rattle.shared_cache.specs.Notices.{invalidates}
 use Rattle.shared_cache.specs.Held.{held}
 use Rattle.shared_cache.specs.Laws.{Every, LegalLog, gots}
 use Rattle.wire_currency.specs.Fetch.{Fetch}
 use Rattle.wire_currency.specs.Current as wires
-use Rattle.currency.specs.Links.{Client, HasWire, IsKeyMode, Meet, run_of, wires_of, traffic_of}
-use Rattle.currency.specs.Links.{up_to}
+use Rattle.currency.specs.Links.{Client, HasWire, Meet, run_of, wires_of, traffic_of, up_to}
 use Rattle.currency.specs.Points.{names_key}
 
 -- a value is the answer to a query over the past up to an entry, as the client's protocol carries
@@ -82,10 +82,11 @@ pub record HasPoint (l : Limits) (x : Client) (past : List Entry) (log : List Lo
       → slice_get (sent l (x.id w) past) i ≡ Some s
       → s.0 < point l x past log h fetched
 
--- For every legal history and every legal log that meet: each held entry is current, and a hit on
--- it has its point. The words of what is held are a query, and each query is served.
+-- For every legal history and every legal log that meet, of a client of one link in any mode: each
+-- held entry is current, and a hit on it has its point. The words of what is held are a query, and
+-- each query is served.
 abbrev pub Currency : Type 0
 Currency =
     (l : Limits) (x : Client) (past : List Entry) (log : List LogEntry)
-    → IsKeyMode x.setup.mode → IsLegal l past → LegalLog x.setup log → Meet l x past log
+    → IsOneLink x.setup.mode → IsLegal l past → LegalLog x.setup log → Meet l x past log
     → Every (λ h. IsCurrent l x past log h × HasPoint l x past log h) (held x.setup log)

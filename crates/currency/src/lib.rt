@@ -6,7 +6,7 @@ ghost use Rattle.currency.specs.CompleteExactly.{CompletesExactly};
 ghost use Rattle.currency.specs.Current.{Currency};
 
 use command_words::law_signals_are_written;
-use serial_model::{law_before_the_reply, law_change_is_signalled};
+use serial_model::{law_before_the_reply, law_change_is_signalled, law_registered_is_mode};
 
 /// For every legal history and every legal log that meet: each held entry is current, and a hit on
 /// it has its point.
@@ -16,6 +16,7 @@ pub fn law_currency()
     law_change_is_signalled();
     law_before_the_reply();
     law_signals_are_written();
+    law_registered_is_mode();
 }
 
 /// For every history and every log that meet: a link is complete up to the entry before the first

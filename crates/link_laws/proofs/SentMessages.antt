@@ -30,11 +30,9 @@ use Rattle.serial_model.specs.Modes.{Runner, accepted, is_stopping, pong, tracki
 use Rattle.serial_model.specs.Tracking.{Invalidation}
 use Rattle.serial_model.specs.State.{State, is_live, is_on}
 use Rattle.serial_model.specs.Actions.{Action, Sending, End, action_sends, ends, heard}
-use Rattle.serial_model.specs.Actions.{is_overgrown}
-use Rattle.serial_model.specs.Actions.{messages, replies, to_one}
+use Rattle.serial_model.specs.Actions.{expiry_told, is_overgrown, later_told, messages, replies}
+use Rattle.serial_model.specs.Actions.{to_one}
 use Rattle.serial_model.specs.Plain.{IsPlainAction, pushed, pushes, tests_before, tests_then}
-use Rattle.serial_model.specs.Plain.{told_then}
-use Rattle.serial_model.specs.Tracking.{group}
 use Rattle.serial_model.specs.History.{effect_of, ran_over, ran, run_action, sends, sent_to, state}
 use Rattle.serial_model.specs.History.{tick_action}
 use Rattle.serial_model.proofs.PlainActions.{first, first_is, rest, rest_is, run_plain}
@@ -166,10 +164,10 @@ module _ (l : Limits) (past : List Entry) (t : Action) (p : IsPlainAction t)
       (readable_both (heard s told ++ heard s (replies t)) (heard s later)
       (readable_both (heard s told) (heard s (replies t))
       (subst Readable (sym (first_is l t s h p))
-      (readable_pushes (tests_before s) (group t.expired s.table)))
+      (readable_pushes (tests_before s) (expiry_told t s)))
       (readable_heard s (replies t) replied))
       (subst Readable (sym (rest_is l t s h p))
-      (readable_pushes (tests_then t s) (told_then l t s))))
+      (readable_pushes (tests_then t s) (later_told l t s))))
 
   readable_action : Readable (action_sends (is_overgrown l t s) l t s)
   readable_action =

@@ -49,10 +49,10 @@ all_up_to prefix rs n h within before i lt =
 
 -- ---- which places pass two tests
 
-abbrev kept : (ℕ → Bool) → ℕ → ℕ → List ℕ
+abbrev pub kept : (ℕ → Bool) → ℕ → ℕ → List ℕ
 kept p a m = filter p (range_with_len a m)
 
-kept_same : (p q : ℕ → Bool) (a m : ℕ) → ((i : ℕ) → a ≤ i → i < a + m → p i ≡ q i)
+pub kept_same : (p q : ℕ → Bool) (a m : ℕ) → ((i : ℕ) → a ≤ i → i < a + m → p i ≡ q i)
     → kept p a m ≡ kept q a m
 kept_same p q a zero same = refl
 kept_same p q a (suc m) same =
@@ -60,7 +60,7 @@ kept_same p q a (suc m) same =
     ∙ ap (λ l. cond (q a) (a ∷ l) l)
     (kept_same p q (a + 1) m (λ i le lt. same i (omega arith) (omega arith)))
 
-kept_none : (p : ℕ → Bool) (a m : ℕ) → ((i : ℕ) → a ≤ i → i < a + m → p i ≡ false)
+pub kept_none : (p : ℕ → Bool) (a m : ℕ) → ((i : ℕ) → a ≤ i → i < a + m → p i ≡ false)
     → kept p a m ≡ []
 kept_none p a zero none = refl
 kept_none p a (suc m) none =

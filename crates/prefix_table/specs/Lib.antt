@@ -2,3 +2,4 @@ pub mod Table
 pub mod Places
 pub mod Fronts
 pub mod Order
+pub mod Withdrawals

@@ -2,7 +2,7 @@
 -- CLIENT TRACKING, BCAST and PREFIX).
 use Rattle.std.specs.Prelude.{◌==◌, ℕ, List, [], ◌∷◌, Bool, not, nat_eq, length, map, filter}
 use Rattle.std.specs.Prelude.{Option, option_map, slice_get, slice_index_or}
-use Rattle.std.specs.List.{range_with_len, starts_with}
+use Rattle.std.specs.List.{list_any, range_with_len, starts_with}
 use Rattle.std.specs.Ordering.{match_ordering, nat_cmp}
 use Rattle.std.specs.declared.cmp.Ordering.{Ordering}
 use Rattle.std.specs.Cmp.Lexicographic.{slice_cmp}
@@ -24,6 +24,11 @@ registered id prefix [] = first_of id prefix ∷ []
 registered id prefix (r ∷ rs) =
     match_ordering (byte_order r.prefix prefix)
     (r ∷ registered id prefix rs) (joined_by id r ∷ rs) (first_of id prefix ∷ r ∷ rs)
+
+-- a connection registers these prefixes too
+abbrev pub with_prefixes : ℕ → List (List ℕ) → List Registration → List Registration
+with_prefixes id [] rows = rows
+with_prefixes id (p ∷ ps) rows = with_prefixes id ps (registered id p rows)
 
 abbrev pub left_by : ℕ → Registration → Registration
 left_by id r = record r { ids = without_id id r.ids }
@@ -47,6 +52,11 @@ starts_with_at key rs n = starts_with nat_eq key (prefix_at rs n)
 -- the places, ascending, of the prefixes that a key starts with
 abbrev pub places_of : List ℕ → List Registration → List ℕ
 places_of key rs = filter (starts_with_at key rs) (range_with_len 0 (length rs))
+
+-- the places, ascending and each once, of the prefixes that one of the keys starts with
+abbrev pub places_of_any : List (List ℕ) → List Registration → List ℕ
+places_of_any keys rs =
+    filter (λ n. list_any (λ key. starts_with_at key rs n) keys) (range_with_len 0 (length rs))
 
 abbrev pub row_at : ℕ → List Registration → Option (List ℕ × List ℕ)
 row_at n rs = option_map (λ r. (r.prefix, r.ids)) (slice_get rs n)

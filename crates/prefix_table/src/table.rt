@@ -1,15 +1,17 @@
 //! The table of registered prefixes, as a list in byte order.
-ghost use Rattle.std.specs.Prelude.{◌≡◌, ◌++◌, [], OnOk, OnErr, IfSome, List, ℕ, option_map};
+ghost use Rattle.std.specs.Prelude.{◌≡◌, ◌==◌, ◌++◌, [], OnOk, OnErr, IfOk, IfSome, List, ℕ};
+ghost use Rattle.std.specs.Prelude.{length, option_map, true};
 ghost use Rattle.id_set.specs.Ids.{Ascend};
 ghost use Rattle.std.specs.Ordering.{is_lt};
-ghost use Rattle.prefix_table.specs.Table.{byte_order, places_of, registered, row_at};
-ghost use Rattle.prefix_table.specs.Table.{without_connection};
+ghost use Rattle.prefix_table.specs.Table.{byte_order, places_of, places_of_any, registered};
+ghost use Rattle.prefix_table.specs.Table.{row_at, with_prefixes, without_connection};
 ghost use Rattle.prefix_table.specs.Fronts.{IsFirstFrom, common};
 ghost use Rattle.prefix_table.specs.Order.{IsTable};
 ghost use Rattle.prefix_table.specs.Places.{IsPlace};
+ghost use Rattle.prefix_table.specs.Withdrawals.{all_withdrawn, is_registered, withdrawn};
 
 use id_set::IdSet;
-use resp_value::{NoMemory, Octets};
+use resp_value::{NoMemory, Octets, Words};
 use std::alloc::Global;
 use std::cmp::Ordering;
 use std::marker::Model;
@@ -70,6 +72,12 @@ impl PrefixTable {
         }
     }
 
+    pub fn is_empty(&self) -> bool
+        ensures { result ≡ (length self.now == 0) }
+    {
+        self.rows.is_empty()
+    }
+
     // The first place whose prefix does not come before this one, found by halving.
     fn first_from(&self, prefix: &[u8]) -> usize
         ensures { IsFirstFrom prefix.now self.now result }
@@ -122,6 +130,80 @@ impl PrefixTable {
         }
     }
 
+    // Whether the connection registered the prefix. If so, once more changes nothing.
+    fn registers(&self, id: u64, prefix: &[u8]) -> bool
+        ensures is { result ≡ is_registered id prefix.now self.now }
+        ensures again { result ≡ true → registered id prefix.now self.now ≡ self.now }
+    {
+        match self.place_of(prefix) {
+            Ok(place) => self.rows[place].ids.as_slice().contains(&id),
+            Err(_) => false,
+        }
+    }
+
+    // Where the connection did not register the prefix yet, it goes last among those that are new.
+    fn add_new(&mut self, id: u64, prefix: &[u8], new: &mut Words) -> Result<(), NoMemory>
+        ensures ok { OnOk result (self.new ≡ registered id prefix.now self.old) }
+        ensures back { OnOk result
+            (all_withdrawn id new.new self.new ≡ all_withdrawn id new.old self.old) }
+        ensures err { OnErr result ((self.new ≡ self.old) × (new.new ≡ new.old)) }
+    {
+        if self.registers(id, prefix) {
+            return Ok(());
+        }
+        let copy = Octets::from_slice(self.alloc, prefix)?;
+        self.add(id, prefix)?;
+        match new.push(copy) {
+            Ok(()) => Ok(()),
+            Err(_) => {
+                self.withdraw(id, prefix);
+                Err(NoMemory)
+            }
+        }
+    }
+
+    /// The connection registers all these prefixes, besides those that registered them already.
+    pub fn add_all(&mut self, id: u64, prefixes: &[Octets]) -> Result<(), NoMemory>
+        ensures ok { OnOk result (self.new ≡ with_prefixes id prefixes.now self.old) }
+        ensures err { OnErr result (self.new ≡ self.old) }
+    {
+        let mut new = Words::new(self.alloc);
+        for (number, prefix) in prefixes.iter().enumerate() {
+            match self.add_new(id, prefix.as_slice(), &mut new) {
+                Ok(()) => {}
+                Err(_) => {
+                    self.withdraw_all(id, new.as_slice());
+                    return Err(NoMemory);
+                }
+            }
+        }
+        Ok(())
+    }
+
+    // The connection registers the prefix no more. It takes no memory.
+    fn withdraw(&mut self, id: u64, prefix: &[u8])
+        ensures { self.new ≡ withdrawn id prefix.now self.old }
+    {
+        if let Ok(place) = self.place_of(prefix) {
+            let row = &mut self.rows[place];
+            row.ids.remove(id);
+            if row.ids.as_slice().is_empty() {
+                drop(self.rows.remove(place));
+            }
+        }
+    }
+
+    // The connection registers these prefixes no more; the last is withdrawn first.
+    fn withdraw_all(&mut self, id: u64, prefixes: &[Octets])
+        ensures { self.new ≡ all_withdrawn id prefixes.now self.old }
+    {
+        let mut left = prefixes.len();
+        'prefixes: while left > 0 {
+            left -= 1;
+            self.withdraw(id, prefixes[left].as_slice());
+        }
+    }
+
     /// The connection has registered no prefix any more. It takes no memory.
     pub fn remove_connection(&mut self, id: u64)
         ensures { self.new ≡ without_connection id self.old }
@@ -163,6 +245,20 @@ impl PrefixTable {
             front = common + 1;
         }
         Ok(())
+    }
+
+    /// The places of the prefixes that one of the keys starts with, in byte order of prefix, each
+    /// once. It looks each key up, and sorts what it found.
+    pub fn matching_any(&self, keys: &[Octets]) -> Result<Vec<usize>, NoMemory>
+        ensures { IfOk result (λ places. places.items ≡ places_of_any keys.now self.now) }
+    {
+        let mut places = Vec::new(self.alloc);
+        for (number, key) in keys.iter().enumerate() {
+            self.matching(key.as_slice(), &mut places)?;
+        }
+        places.sort_unstable();
+        places.dedup();
+        Ok(places)
     }
 
     /// The prefix at a place, and the connections that registered it, in ascending order.

@@ -119,9 +119,7 @@ impl fmt::Display for Refusal<'_> {
                 write!(f, "a link or a client is named {name} already")
             }
             Refusal::NothingThere => f.write_str("fewer bytes are there than it moves"),
-            Refusal::Mode => f.write_str(
-                "no such client is served yet: it is single and 3, and default, optin or optout",
-            ),
+            Refusal::Mode => f.write_str("no such client is served yet: it is single and 3"),
             Refusal::Control => f.write_str(
                 "a client sends no command that changes how the server serves it, as HELLO does",
             ),
@@ -217,8 +215,8 @@ fn form_of(kind: &[u8]) -> Option<&'static str> {
         b"say" => Some("say R WORD.., each word in its printed form"),
         b"bytes" => Some("bytes R TEXT, the text in its printed form"),
         b"client" => Some(
-            "client X single 3 MODE CAPACITY [noloop], the mode default, optin or optout, and the \
-             capacity from 1 to 1000000",
+            "client X single 3 MODE CAPACITY [noloop] [prefix P].., the mode default, optin, \
+             optout or bcast, the capacity from 1 to 1000000, and prefixes with bcast alone",
         ),
         b"out" => Some("out L [N]"),
         b"serve" => Some("serve L [N]"),

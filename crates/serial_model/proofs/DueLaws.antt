@@ -43,7 +43,7 @@ use Rattle.serial_model.specs.Actions.{drops_told, is_passed, own_told, rows_gro
 use Rattle.serial_model.specs.Actions.{target_at, tracks}
 use Rattle.serial_model.specs.History.{protocol, runner_in, sends}
 use Rattle.serial_model.specs.Laws.{DueIsPushed}
-use Rattle.serial_model.proofs.PlainActions.{later_is, run_plain, states_are_plain, then_plain}
+use Rattle.serial_model.proofs.PlainActions.{run_plain, states_are_plain, then_plain}
 use Rattle.serial_model.proofs.PlainActions.{tick_plain}
 use Rattle.serial_model.proofs.Quiet.{same_or_none, tick_none}
 use Rattle.serial_model.proofs.Tables.{drop_group_all, dropped_all, ids_all, signal_group_all}
@@ -297,7 +297,7 @@ module _ (l : Limits) (past : List Entry) (c : ℕ) (key : List ℕ) where
         | inl same ↦ later_tracks l t now c key (all_track l past)
             (made_tracks words (runner_in now id words)) same.1 e
         | inr none ↦ absurd (both_ways _
-            (ap (list_any (tells c key)) (later_is l t now h p ∙ none)) e)
+            (ap (list_any (tells c key)) none) e)
       ]) then)
       due
 
@@ -313,7 +313,7 @@ module _ (l : Limits) (past : List Entry) (c : ℕ) (key : List ℕ) where
       (λ e. pushes_to c (now.modes c) (target_at now.modes (is_on now) c) (h.each c)
       (first_tracks t e) before)
       (λ e. absurd (both_ways _
-      (ap (list_any (tells c key)) (later_is l t now h p ∙ tick_none l past moment)) e))
+      (ap (list_any (tells c key)) (tick_none l past moment)) e))
       due
 
 pub due_is_pushed : DueIsPushed

@@ -46,7 +46,7 @@ module _ (c : ℕ) where
         | false ↦ grind (arith, or_right)
       ]
 
-  with_itself : (ids : List ℕ) → has_id c (with_id c ids) ≡ true
+  pub with_itself : (ids : List ℕ) → has_id c (with_id c ids) ≡ true
   with_itself [] = or_left (c == c) false (eq-eqb c c refl)
   with_itself (x ∷ xs) = grind (arith, or_right, or_left, eq-eqb, with_itself xs)
 

@@ -30,3 +30,7 @@ pub mod DueLaws
 pub mod BeforeReply
 pub mod PlainActions
 pub mod Quiet
+pub mod PrefixGroups
+pub mod OwnPrefixes
+pub mod Registered
+pub mod KeptPrefixes

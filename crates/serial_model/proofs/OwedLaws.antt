@@ -21,7 +21,7 @@ use Rattle.id_set.specs.Ids.{with_id, without_id}
 use Rattle.track_table.specs.declared.table.Held.{Held}
 use Rattle.track_table.specs.Table.{holders_of, dropped, kept, without_connection}
 use Rattle.prefix_table.specs.declared.table.Registration.{Registration}
-use Rattle.prefix_table.specs.Table.{registered, byte_order, left_by, is_held}
+use Rattle.prefix_table.specs.Table.{registered, byte_order, left_by, is_held, with_prefixes}
 use Rattle.prefix_table.specs.Table as registrations
 use Rattle.track_modes.specs.ModeState.{remembers_read}
 use Rattle.track_modes.specs.Commands.{fault_at}
@@ -32,7 +32,7 @@ use Rattle.serial_model.specs.declared.standing.Standing.{Standing}
 use Rattle.serial_model.specs.declared.standing.Standing.TheVariants.{Quit, Gone}
 use Rattle.serial_model.specs.Modes.{Memory, Remembers, Registers, Forgets, Runner, own_effect}
 use Rattle.serial_model.specs.State.{State, is_live, is_on, closed, for_each}
-use Rattle.serial_model.specs.Tracking.{has_id, remembering, registering, tells, with_prefixes}
+use Rattle.serial_model.specs.Tracking.{has_id, remembering, registering, tells}
 use Rattle.serial_model.specs.Tracking.{without_signalled}
 use Rattle.serial_model.specs.Actions.{Action, ends, action_leaves, rows_then, rows_grown}
 use Rattle.serial_model.specs.Actions.{quits, is_overgrown, expiry_told, own_told, later_told}

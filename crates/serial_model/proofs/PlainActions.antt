@@ -1,7 +1,6 @@
 -- Each state of a history is plain; and what an action on a plain state sends.
 use Rattle.std.proofs.Common.{◌≡◌, ◌∙◌, refl, ap, ℕ, zero, suc, List, [], ◌∷◌, ◌++◌, Bool, true}
-use Rattle.std.proofs.Common.{false, cond, Option, Some, None, Result, Ok, arith, append-nil}
-use Rattle.std.proofs.Common.{map}
+use Rattle.std.proofs.Common.{false, cond, Option, Some, None, Result, Ok, arith, map}
 use Rattle.std.specs.Prelude.{◌==◌, ◌&&◌, ◌||◌, not, is_some, filter}
 use Rattle.std.proofs.lemmas.Bool.{cases_Bool, both_ways}
 use Rattle.std.proofs.lemmas.Bool.Decides.{nat_tests}
@@ -10,14 +9,9 @@ use Rattle.resp_value.specs.declared.value.Proto.{Proto}
 use Rattle.resp_value.specs.declared.value.Value.{Value}
 use Rattle.resp_value.specs.declared.value.Proto.TheVariants.{Two, Three}
 use Rattle.command_words.specs.declared.command.Command.{Command}
-use Rattle.command_words.specs.declared.command.Signalled.{Signalled}
-use Rattle.command_words.specs.declared.command.Signalled.TheVariants.{Keys, All}
 use Rattle.command_words.specs.declared.command.TrackOptions.{TrackOptions}
 use Rattle.command_words.specs.declared.command.WordFault.{WordFault}
 use Rattle.command_words.specs.Words.{reading}
-use Rattle.track_table.specs.declared.table.Held.{Held}
-use Rattle.prefix_table.specs.declared.table.Registration.{Registration}
-use Rattle.prefix_table.specs.Table as registrations
 use Rattle.track_modes.specs.declared.fault.ModeFault.{ModeFault}
 use Rattle.track_modes.specs.declared.fault.ModeFault.TheVariants.{NotOpt}
 use Rattle.track_modes.specs.declared.peer.Peer.{Peer}
@@ -33,24 +27,20 @@ use Rattle.serial_model.specs.declared.history.Limits.{Limits}
 use Rattle.serial_model.specs.declared.history.Entry.{Entry}
 use Rattle.serial_model.specs.declared.history.Entry.TheVariants.{Admit, Run, Tick, Take, Close}
 use Rattle.serial_model.specs.Modes.{Runner, own_effect, unless_refused, is_served_tracking}
-use Rattle.serial_model.specs.Modes.{tracking_memory, memory_of, mends}
-use Rattle.serial_model.specs.Modes.{target_of}
-use Rattle.serial_model.specs.Tracking.{Invalidation, group, signal_group, whole_group, registering}
-use Rattle.serial_model.specs.Tracking.{ids_where}
-use Rattle.serial_model.specs.State.{State, for_each, is_on}
+use Rattle.serial_model.specs.Modes.{mends, target_of}
+use Rattle.serial_model.specs.Tracking.{Invalidation, ids_where}
+use Rattle.serial_model.specs.State.{State, is_on}
 use Rattle.serial_model.specs.Actions.{Action, Sending, Message, End, carried, way, routed}
-use Rattle.serial_model.specs.Actions.{peer_at, target_at, ends}
-use Rattle.serial_model.specs.Actions.{action_leaves, expiry_told, is_passed, heard, messages}
-use Rattle.serial_model.specs.Actions.{later_told, replies, is_overgrown, drops_told, quits}
-use Rattle.serial_model.specs.Actions.{modes_then}
-use Rattle.serial_model.specs.Actions.{to_one}
+use Rattle.serial_model.specs.Actions.{peer_at, target_at, action_leaves, expiry_told, heard}
+use Rattle.serial_model.specs.Actions.{messages, later_told, replies, is_overgrown, quits}
+use Rattle.serial_model.specs.Actions.{modes_then, to_one}
 use Rattle.serial_model.specs.History.{served, is_served, is_quit, state, made_of, run_action}
 use Rattle.serial_model.specs.History.{is_target, runner_in, sends, tick_action}
 use Rattle.serial_model.specs.History.{runs_on}
 use Rattle.serial_model.specs.EntryEffects.{dropped_by}
 use Rattle.serial_model.specs.Plain.{IsPlainMode, IsPlain, IsPlainAction, is_plain_tracking}
-use Rattle.serial_model.specs.Plain.{is_three, takes_pushes, pushed, pushes, signalled_group}
-use Rattle.serial_model.specs.Plain.{tests_before, tests_then, told_then, plain_sends, quit_end}
+use Rattle.serial_model.specs.Plain.{is_three, takes_pushes, pushed, pushes, tests_before}
+use Rattle.serial_model.specs.Plain.{tests_then, plain_sends, quit_end}
 use Rattle.serial_model.proofs.Counts.{admitted_is}
 use Rattle.serial_model.proofs.Ends.{is_ending}
 use Rattle.serial_model.proofs.ServedRows.{none_stops, row_served, served_cases}
@@ -79,19 +69,6 @@ unless_plain : (fault : Option ModeFault) (c : Command) (m : ModeState) → is_s
 unless_plain None c m is h = changed_plain c m is h
 unless_plain (Some fault) c m is h = refused_plain fault m h
 
-registers_none : (id : ℕ) (o : TrackOptions) (t : Tracking) → is_served_tracking o ≡ true
-    → registering id (tracking_memory o t) [] ≡ []
-registers_none id o t h = grind arith
-
-memory_none : (id : ℕ) (c : Command) (m : ModeState) → is_served c ≡ true
-    → registering id (memory_of c m) [] ≡ []
-memory_none id c m is = grind (arith, registers_none)
-
-unless_none : (id : ℕ) (fault : Option ModeFault) (c : Command) (m : ModeState)
-    → is_served c ≡ true → registering id (unless_refused fault c m).memory [] ≡ []
-unless_none id None c m is = memory_none id c m is
-unless_none id (Some fault) c m is = refl
-
 module _ (by : Runner) where
   own_plain : IsPlainMode by.mode → (r : Result Command WordFault)
       → IsPlainMode (own_effect (served r) by).mode
@@ -100,14 +77,6 @@ module _ (by : Runner) where
       (λ c is none. unless_plain (fault_at c by.target_exists by.mode) c by.mode is h)
       (λ c row. unless_plain (fault_at c by.target_exists by.mode) c by.mode (row_served c row) h)
       (λ f. refused_plain NotOpt by.mode h)
-
-  none_registered : (id : ℕ) (r : Result Command WordFault)
-      → registering id (own_effect (served r) by).memory [] ≡ []
-  none_registered id =
-      served_cases (λ r. registering id (own_effect r by).memory [] ≡ [])
-      (λ c is none. unless_none id (fault_at c by.target_exists by.mode) c by.mode is)
-      (λ c row. unless_none id (fault_at c by.target_exists by.mode) c by.mode (row_served c row))
-      (λ f. refl)
 
 -- words that are served name no target of a redirection
 names_none : (c : Command) → is_served c ≡ true → target_of (Ok c) ≡ None
@@ -124,12 +93,11 @@ pub run_plain : (id : ℕ) (words : List (List ℕ)) (moment : ℕ) (s : State) 
 unfolding made_of
 run_plain id words moment s h = record {
   mode = own_plain (runner_in s id words) (h.each id) (reading words);
-  none = none_registered (runner_in s id words) id (reading words);
   goes_on = none_stops (reading words);
 }
 
 pub tick_plain : (moment : ℕ) (s : State) → IsPlain s → IsPlainAction (tick_action moment s)
-tick_plain moment s h = record { mode = h.each 0; none = refl; goes_on = refl }
+tick_plain moment s h = record { mode = h.each 0; goes_on = refl }
 
 -- where no message is redirected, no redirection breaks
 breaks_none : (t : Tracking) (target : Option Peer) → is_plain_tracking t ≡ true
@@ -139,10 +107,6 @@ breaks_none t target h = grind arith
 still_whole : (mends broken x y old new : Bool) → broken ≡ false → old ≡ false → new ≡ false
     → ((cond mends false (broken || (x && old))) || (y && new)) ≡ false
 still_whole mends broken x y old new e f g = grind arith
-
-each_of_none : (ids : List ℕ) → for_each registrations.without_connection ids [] ≡ []
-each_of_none [] = refl
-each_of_none (id ∷ ids) = each_of_none ids
 
 module _ (l : Limits) (t : Action) (s : State) (h : IsPlain s) (p : IsPlainAction t) where
   pub then_plain : (c : ℕ) → IsPlainMode (modes_then t s c)
@@ -154,11 +118,6 @@ module _ (l : Limits) (t : Action) (s : State) (h : IsPlain s) (p : IsPlainActio
   pub leaves_plain : (o : ℕ → Bool) → IsPlain (action_leaves o l t s)
   leaves_plain o = record {
     each = then_plain;
-    none =
-        ap (λ rows. for_each registrations.without_connection (ends o t s)
-        (registering t.by t.effect.memory rows)) h.none
-        ∙ ap (for_each registrations.without_connection (ends o t s)) p.none
-        ∙ each_of_none (ends o t s);
     whole = λ c. still_whole ((t.by == c) && mends t.effect.memory) (s.broken c) _ _ _ _ (h.whole c)
         (breaks_none (s.modes c).tracking (target_at s.modes (is_on s) c) (h.each c).tracking)
         (breaks_none (modes_then t s c).tracking (target_at (modes_then t s) (is_on s) c)
@@ -169,7 +128,6 @@ pub states_are_plain : (l : Limits) (past : List Entry) → IsPlain (state l pas
 unfolding state
 states_are_plain l [] = record {
   each = λ c. record { subscribed = refl; tracking = refl };
-  none = refl;
   whole = λ c. refl;
 }
 states_are_plain l (Admit id ∷ past) = states_are_plain l past
@@ -185,12 +143,7 @@ states_are_plain l (Tick moment ∷ past) =
     (is_overgrown l t s)
 states_are_plain l (Take id max ∷ past) = states_are_plain l past
 states_are_plain l (Close id ∷ past) =
-    let h = states_are_plain l past in
-    record {
-      each = h.each;
-      none = ap (registrations.without_connection id) h.none;
-      whole = h.whole;
-    }
+    let h = states_are_plain l past in record { each = h.each; whole = h.whole }
 
 -- ---- nobody ends who does not quit
 
@@ -215,8 +168,8 @@ none_dropped l (e ∷ past) = refl
 
 -- ---- what an action on a plain state sends
 
-none_redirected : (x y : Bool) → not (x || y) ≡ true → x ≡ false
-none_redirected x y h = grind arith
+none_redirected : (x : Bool) → not x ≡ true → x ≡ false
+none_redirected x h = grind arith
 
 module _ (modes : ℕ → ModeState) (on : ℕ → Bool) where
   abbrev way_of : Tracking → Proto → Invalidation → List (ℕ × Sending)
@@ -237,7 +190,7 @@ module _ (modes : ℕ → ModeState) (on : ℕ → Bool) where
       ((i.to, Message Three (push_of i.keys)) ∷ []) []
   plain_way Off p i h = refl
   plain_way (On settings) p i h =
-      own_way settings.redirect p i (none_redirected (is_some settings.redirect) _ h)
+      own_way settings.redirect p i (none_redirected (is_some settings.redirect) h)
 
   module _ (plain : (c : ℕ) → IsPlainMode (modes c)) where
     one_way : (i : Invalidation)
@@ -259,28 +212,7 @@ module _ (modes : ℕ → ModeState) (on : ℕ → Bool) where
         ∙ ap (λ x. x ++ filter (λ m. on m.0) (routed modes on told)) (one_way i)
         ∙ ap (λ x. pushed (λ c. takes_pushes on (modes c) c) i ++ x) (heard_pushes told)
 
--- no prefix is registered
-whole_is : (keys : List (List ℕ)) (rows : List Held) (prefixes : List Registration)
-    → prefixes ≡ [] → whole_group keys rows prefixes ≡ group keys rows
-whole_is keys rows prefixes none =
-    ap (whole_group keys rows) none ∙ append-nil (group keys rows)
-
-signal_is : (sig : Signalled) (passed : ℕ → Bool) (tracking : List ℕ) (rows : List Held)
-    (prefixes : List Registration) → prefixes ≡ []
-    → signal_group sig passed tracking rows prefixes ≡ signalled_group sig passed tracking rows
-signal_is (Keys keys) passed tracking rows prefixes none =
-    ap (filter (λ i. not (passed i.to))) (whole_is keys rows prefixes none)
-signal_is All passed tracking rows prefixes none = refl
-
 module _ (l : Limits) (t : Action) (s : State) (h : IsPlain s) (p : IsPlainAction t) where
-  pub expiry_is : expiry_told t s ≡ group t.expired s.table
-  expiry_is = whole_is t.expired s.table s.prefixes h.none
-
-  pub later_is : later_told l t s ≡ told_then l t s
-  later_is =
-      ap (λ x. x ++ drops_told l t s)
-      (signal_is t.effect.signalled (is_passed t s) _ _ s.prefixes h.none)
-
   abbrev pub on : ℕ → Bool
   on = is_on s
 
@@ -290,14 +222,11 @@ module _ (l : Limits) (t : Action) (s : State) (h : IsPlain s) (p : IsPlainActio
   abbrev pub rest : List (ℕ × Sending)
   rest = routed (modes_then t s) on (later_told l t s)
 
-  pub first_is : heard s first ≡ pushes (tests_before s) (group t.expired s.table)
-  first_is =
-      heard_pushes s.modes on h.each (expiry_told t s) ∙ ap (pushes (tests_before s)) expiry_is
+  pub first_is : heard s first ≡ pushes (tests_before s) (expiry_told t s)
+  first_is = heard_pushes s.modes on h.each (expiry_told t s)
 
-  pub rest_is : heard s rest ≡ pushes (tests_then t s) (told_then l t s)
-  rest_is =
-      heard_pushes (modes_then t s) on (then_plain l t s h p) (later_told l t s)
-      ∙ ap (pushes (tests_then t s)) later_is
+  pub rest_is : heard s rest ≡ pushes (tests_then t s) (later_told l t s)
+  rest_is = heard_pushes (modes_then t s) on (then_plain l t s h p) (later_told l t s)
 
   pub plain_messages : heard s (replies t) ≡ replies t
       → messages l t s ++ quit_end t ≡ plain_sends l t s
@@ -306,8 +235,8 @@ module _ (l : Limits) (t : Action) (s : State) (h : IsPlain s) (p : IsPlainActio
       (heard-append s (first ++ replies t) rest
       ∙ ap (λ x. x ++ heard s rest)
       (heard-append s first (replies t) ∙ ap (λ x. x ++ heard s (replies t)) first_is
-      ∙ ap (λ x. pushes (tests_before s) (group t.expired s.table) ++ x) reply)
-      ∙ ap (λ x. (pushes (tests_before s) (group t.expired s.table) ++ replies t) ++ x) rest_is)
+      ∙ ap (λ x. pushes (tests_before s) (expiry_told t s) ++ x) reply)
+      ∙ ap (λ x. (pushes (tests_before s) (expiry_told t s) ++ replies t) ++ x) rest_is)
 
 -- a connection that runs on is one of the state
 pub on_runs : (l : Limits) (past : List Entry) (c : ℕ) → runs_on l past c ≡ true

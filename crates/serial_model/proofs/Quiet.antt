@@ -1,7 +1,7 @@
 -- A command leaves its connection's protocol and tracking, or it signals and remembers nothing.
 use Rattle.std.proofs.Common.{◌≡◌, ◌∙◌, ◌⊎◌, inl, inr, ◌≤◌, ◌++◌, ℕ, List, [], ◌∷◌, Bool, cond}
 use Rattle.std.proofs.Common.{refl, ap, true, false, Option, None, Some, Result, Ok, length, arith}
-use Rattle.std.specs.Prelude.{◌==◌}
+use Rattle.std.specs.Prelude.{◌==◌, filter, not}
 use Rattle.std.proofs.lemmas.Bool.{eqb-true, cases_Bool}
 use Rattle.command_words.specs.declared.command.Command.TheVariants.{ClientTracking, Reset}
 use Rattle.command_words.specs.declared.command.TrackOptions.{TrackOptions}
@@ -16,6 +16,7 @@ use Rattle.command_words.specs.Queries.{read}
 use Rattle.command_words.specs.Space.{Space}
 use Rattle.command_words.specs.Words.{reading}
 use Rattle.track_table.specs.declared.table.Held.{Held}
+use Rattle.prefix_table.specs.declared.table.Registration.{Registration}
 use Rattle.track_table.specs.Table.{dropped}
 use Rattle.track_modes.specs.declared.fault.ModeFault.{ModeFault}
 use Rattle.track_modes.specs.declared.tracking.Tracking.{Tracking}
@@ -27,9 +28,9 @@ use Rattle.serial_model.specs.declared.history.Entry.{Entry}
 use Rattle.serial_model.specs.Modes.{Memory, Remembers, Registers, Forgets, Runner, own_effect}
 use Rattle.serial_model.specs.Modes.{memory_of, tracking_memory, unless_refused}
 use Rattle.serial_model.specs.State.{State}
-use Rattle.serial_model.specs.Tracking.{drop_group, remembering, without_signalled}
-use Rattle.serial_model.specs.Actions.{Action, modes_then, rows_then}
-use Rattle.serial_model.specs.Plain.{signalled_group, told_then}
+use Rattle.serial_model.specs.Tracking.{drop_group, prefix_group, remembering, signal_group}
+use Rattle.serial_model.specs.Tracking.{without_signalled}
+use Rattle.serial_model.specs.Actions.{Action, later_told, modes_then, rows_then}
 use Rattle.serial_model.specs.History.{state, protocol, served, effect_of, ran_over, made_of}
 use Rattle.serial_model.specs.History.{runner_in, run_action, tick_action, table_then}
 use Rattle.serial_model.proofs.ServedRows.{served_cases, data_own, own_replied, read_none}
@@ -88,13 +89,21 @@ same_or_quiet by words space moment r =
     (λ command is. rw (data_own command by is) (inl (refl, refl)))
     (λ fault. inl (refl, refl)) r
 
+-- no prefix is one of no key
+none_by_prefix : (prefixes : List Registration) → prefix_group [] prefixes ≡ []
+none_by_prefix [] = refl
+none_by_prefix (r ∷ rs) = none_by_prefix rs
+
 quiet_told : (l : Limits) (id : ℕ) (memory : Memory) (sig : Signalled) (passed : ℕ → Bool)
-    (ids : List ℕ) (rows : List Held) → sig ≡ Keys [] → Adds id memory → length rows ≤ l.table_max
-    → signalled_group sig passed ids rows
+    (ids : List ℕ) (rows : List Held) (prefixes : List Registration) → sig ≡ Keys []
+    → Adds id memory → length rows ≤ l.table_max
+    → signal_group sig passed ids rows prefixes
     ++ drop_group (dropped l.table_max (remembering id memory (without_signalled sig rows))) ≡ []
-quiet_told l id memory sig passed ids rows e adds le =
-    ap (λ g. signalled_group g passed ids rows
+quiet_told l id memory sig passed ids rows prefixes e adds le =
+    ap (λ g. signal_group g passed ids rows prefixes
     ++ drop_group (dropped l.table_max (remembering id memory (without_signalled g rows)))) e
+    ∙ ap (λ told. filter (λ i. not (passed i.to)) told
+    ++ drop_group (dropped l.table_max (remembering id memory rows))) (none_by_prefix prefixes)
     ∙ ap drop_group (none_dropped l.table_max (remembering id memory rows)
     (let a = adds rows in omega (arith, a, le)))
 
@@ -111,7 +120,7 @@ module _ (l : Limits) (past : List Entry) (c id : ℕ) (words : List (List ℕ))
       × (mode_state.is_on (modes_then t s c).tracking
       ≡ mode_state.is_on (s.modes c).tracking)
 
-  pub same_or_none : Same ⊎ (told_then l t s ≡ [])
+  pub same_or_none : Same ⊎ (later_told l t s ≡ [])
   unfolding made_of ran_over
   same_or_none = elim (cases_Bool (id == c)) [
     | inl e ↦ by e (same_or_quiet (runner_in s id words) words (without_due moment s.space) moment
@@ -125,7 +134,7 @@ module _ (l : Limits) (past : List Entry) (c id : ℕ) (words : List (List ℕ))
       by : (id == c) ≡ true
           → SameOrQuiet (runner_in s id words) words (without_due moment s.space) moment
           (served (reading words))
-          → Same ⊎ (told_then l t s ≡ [])
+          → Same ⊎ (later_told l t s ≡ [])
       by e (inl same) = inl (
         ap (λ b. (cond b t.effect.mode (s.modes c)).proto) e ∙ same.0
             ∙ ap (λ k. (s.modes k).proto) (eqb-true id c e),
@@ -133,10 +142,11 @@ module _ (l : Limits) (past : List Entry) (c id : ℕ) (words : List (List ℕ))
             ∙ ap (λ k. mode_state.is_on (s.modes k).tracking) (eqb-true id c e),
       )
       by e (inr quiet) =
-          inr (quiet_told l id t.effect.memory t.effect.signalled _ _ (rows_then t s) quiet.0
-          quiet.1 (then_within l past moment))
+          inr (quiet_told l id t.effect.memory t.effect.signalled _ _ (rows_then t s)
+          s.prefixes quiet.0 quiet.1 (then_within l past moment))
 
 pub tick_none : (l : Limits) (past : List Entry) (moment : ℕ)
-    → told_then l (tick_action moment (state l past)) (state l past) ≡ []
+    → later_told l (tick_action moment (state l past)) (state l past) ≡ []
 tick_none l past moment =
-    ap drop_group (none_dropped l.table_max (table_then l past moment) (then_within l past moment))
+    quiet_told l 0 (Remembers []) (Keys []) _ [] (table_then l past moment)
+    (state l past).prefixes refl (λ rows. omega arith) (then_within l past moment)

@@ -12,14 +12,14 @@ use Rattle.std.specs.declared.cmp.Ordering.TheVariants.{Less, Equal, Greater}
 use Rattle.std.specs.List.{starts_with}
 use Rattle.prefix_table.specs.declared.table.Registration.{Registration}
 use Rattle.prefix_table.specs.Table as registrations
-use Rattle.prefix_table.specs.Table.{registered, byte_order, left_by}
+use Rattle.prefix_table.specs.Table.{registered, byte_order, left_by, with_prefixes}
 use Rattle.track_table.specs.declared.table.Held.{Held}
 use Rattle.id_set.specs.Ids.{with_id, without_id}
 use Rattle.track_table.specs.Table.{holders_of, remembered, without_key, freed_of}
 use Rattle.track_table.specs.Table.{without_connection, with_keys, dropped, kept, without_keys}
 use Rattle.serial_model.specs.Tracking.{without_signalled, ids_where, Invalidation}
 use Rattle.serial_model.specs.Tracking.{told_of, group, drop_group, told_to, signal_group}
-use Rattle.serial_model.specs.Tracking.{told_some, prefix_group, whole_group, with_prefixes}
+use Rattle.serial_model.specs.Tracking.{told_some, prefix_group, whole_group}
 use Rattle.serial_model.specs.Tracking.{remembering, registering}
 use Rattle.serial_model.specs.Modes.{Memory, Remembers, Registers, Forgets}
 use Rattle.serial_model.specs.State.{for_each}

@@ -70,7 +70,7 @@ latest (Close id ∷ past) = latest past
 -- ---- what words do
 
 -- the commands that the server runs: those on strings, on hashes and on keys; those of a connection
--- alone; and CLIENT TRACKING where its options concern no other connection and no prefix
+-- alone; and CLIENT TRACKING where its options concern no other connection
 abbrev pub is_served : Command → Bool
 is_served (Ping text) = true
 is_served (Echo text) = true

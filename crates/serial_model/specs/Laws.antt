@@ -20,7 +20,7 @@ use Rattle.command_words.specs.Effects.{answer}
 use Rattle.track_table.specs.declared.table.Held.{Held}
 use Rattle.track_table.specs.Table.{holders_of}
 use Rattle.prefix_table.specs.declared.table.Registration.{Registration}
-use Rattle.track_modes.specs.ModeState.{ModeState, new_mode, remembers_read}
+use Rattle.track_modes.specs.ModeState.{ModeState, new_mode, prefixes_of, remembers_read}
 use Rattle.track_modes.specs.Tracked.{caching_fault}
 use Rattle.redirect.specs.declared.routes.Route.{Route}
 use Rattle.redirect.specs.declared.routes.Route.TheVariants as route
@@ -276,6 +276,18 @@ remembers rows c key = has_id c (holders_of key rows)
 abbrev pub has_prefix_of : List Registration → ℕ → List ℕ → Bool
 has_prefix_of rows c key =
     list_any (λ r. starts_with nat_eq key r.prefix && has_id c r.ids) rows
+
+-- one of the prefixes that a connection tracks by starts the key
+abbrev pub covers_key : ModeState → List ℕ → Bool
+covers_key m key = list_any (λ prefix. starts_with nat_eq key prefix) (prefixes_of m.tracking)
+
+-- A connection has registered a prefix of a key exactly where it has not ended and tracks by one
+-- (the page of CLIENT TRACKING, BCAST and PREFIX).
+abbrev pub RegisteredIsMode : Type 0
+RegisteredIsMode =
+    (l : Limits) (c : ℕ) (past : List Entry) (key : List ℕ) → IsLegal l past
+    → has_prefix_of (state l past).prefixes c key
+    ≡ (is_on (state l past) c && covers_key (mode l c past) key)
 
 -- a connection that has not ended is told of a key
 abbrev pub is_told_in : State → ℕ → List ℕ → Bool

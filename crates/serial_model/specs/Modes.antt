@@ -1,8 +1,8 @@
 -- What a connection's own commands make of it, and of what is kept for it (the pages
 -- of HELLO, CLIENT TRACKING, QUIT and SHUTDOWN).
 use Rattle.std.specs.Prelude.{ℕ, List, [], ◌∷◌, Option, Some, None, Result, Ok, Err, pos, codes}
-use Rattle.std.specs.Prelude.{is_some, if◌then◌else◌, Bool, true, false, not, ◌&&◌, ◌||◌, length}
-use Rattle.std.specs.Prelude.{◌==◌, ℤ, negsuc, map}
+use Rattle.std.specs.Prelude.{is_some, if◌then◌else◌, Bool, true, false, not, ◌&&◌, ℤ, negsuc}
+use Rattle.std.specs.Prelude.{map}
 use Rattle.std.specs.Option.{option_map_or}
 use Rattle.std.specs.Str.{bytes_eq}
 use Rattle.resp_value.specs.declared.value.Value.{Value}
@@ -60,13 +60,9 @@ hello_reply id (Err text) = Error text
 
 -- ---- tracking
 
--- no option of CLIENT TRACKING concerns another connection or a prefix
-abbrev pub is_of_keys_read : TrackOptions → Bool
-is_of_keys_read o = not (is_some o.redirect || o.bcast) && (length o.prefixes == 0)
-
--- with OFF the options are read and have no effect
+-- with OFF the options are read and have no effect; REDIRECT concerns another connection
 abbrev pub is_served_tracking : TrackOptions → Bool
-is_served_tracking o = not o.on || is_of_keys_read o
+is_served_tracking o = not (o.on && is_some o.redirect)
 
 -- the connection that a command names as the target of a redirection
 abbrev pub target_in : TrackOptions → Option ℕ

@@ -1,54 +1,44 @@
--- The states that come about: no command that is served redirects messages, registers a prefix,
--- subscribes or stops the server. What an action on such a state sends, in short.
-use Rattle.std.specs.Prelude.{◌≡◌, ◌&&◌, ◌++◌, ◌∷◌, ℕ, List, [], Bool, false, None}
-use Rattle.std.specs.Prelude.{true, not, ◌||◌, is_some, filter, if◌then◌else◌}
+-- The states that come about: no command that is served redirects messages, subscribes or stops the
+-- server. What an action on such a state sends, in short.
+use Rattle.std.specs.Prelude.{◌≡◌, ◌&&◌, ◌++◌, ◌∷◌, ℕ, List, [], Bool, false, true, not, is_some}
+use Rattle.std.specs.Prelude.{if◌then◌else◌}
 use Rattle.std.specs.List.{flat_map}
 use Rattle.resp_value.specs.declared.value.Proto.{Proto}
 use Rattle.resp_value.specs.declared.value.Proto.TheVariants.{Two, Three}
-use Rattle.command_words.specs.declared.command.Signalled.{Signalled}
-use Rattle.command_words.specs.declared.command.Signalled.TheVariants.{Keys, All}
-use Rattle.track_table.specs.declared.table.Held.{Held}
-use Rattle.track_table.specs.Table.{dropped}
-use Rattle.prefix_table.specs.declared.table.Registration.{Registration}
 use Rattle.track_modes.specs.declared.tracking.Tracking.{Tracking}
 use Rattle.track_modes.specs.declared.tracking.Tracking.TheVariants.{Off, On}
 use Rattle.track_modes.specs.ModeState as track
 use Rattle.track_modes.specs.ModeState.{ModeState}
-use Rattle.track_modes.specs.Tracked.{is_bcast}
 use Rattle.redirect.specs.Messages.{push_of}
 use Rattle.serial_model.specs.declared.history.Limits.{Limits}
 use Rattle.serial_model.specs.declared.history.Entry.{Entry}
 use Rattle.serial_model.specs.Modes.{is_quitting, is_stopping}
-use Rattle.serial_model.specs.Tracking.{Invalidation, group, told_to, drop_group, ids_where}
-use Rattle.serial_model.specs.Tracking.{registering}
+use Rattle.serial_model.specs.Tracking.{Invalidation}
 use Rattle.serial_model.specs.State.{State, is_on}
-use Rattle.serial_model.specs.Actions.{Sending, Message, End, Action, modes_then, rows_then}
-use Rattle.serial_model.specs.Actions.{is_passed, replies, rows_grown, tracks}
+use Rattle.serial_model.specs.Actions.{Sending, Message, End, Action, modes_then, expiry_told}
+use Rattle.serial_model.specs.Actions.{later_told, replies}
 use Rattle.serial_model.specs.History.{state}
 
--- off, or on for the keys that are read, with messages to the connection itself
+-- off, or on with messages to the connection itself
 abbrev pub is_plain_tracking : Tracking → Bool
 is_plain_tracking Off = true
-is_plain_tracking (On s) = not (is_some s.redirect || is_bcast s.mode)
+is_plain_tracking (On s) = not (is_some s.redirect)
 
 pub record IsPlainMode (m : ModeState) : Type 0 where
   pub subscribed : m.subscribed ≡ false
   pub tracking : is_plain_tracking m.tracking ≡ true
 
--- each mode is plain, no prefix is registered, and no redirection is broken
-pub record ArePlain (modes : ℕ → ModeState) (prefixes : List Registration) (broken : ℕ → Bool)
-    : Type 0 where
+-- each mode is plain, and no redirection is broken
+pub record ArePlain (modes : ℕ → ModeState) (broken : ℕ → Bool) : Type 0 where
   pub each : (c : ℕ) → IsPlainMode (modes c)
-  pub none : prefixes ≡ []
   pub whole : (c : ℕ) → broken c ≡ false
 
 abbrev pub IsPlain : State → Type 0
-IsPlain s = ArePlain s.modes s.prefixes s.broken
+IsPlain s = ArePlain s.modes s.broken
 
--- its command leaves a plain mode, registers no prefix, and does not stop the server
+-- its command leaves a plain mode, and does not stop the server
 pub record IsPlainAction (t : Action) : Type 0 where
   pub mode : IsPlainMode t.effect.mode
-  pub none : registering t.by t.effect.memory [] ≡ []
   pub goes_on : is_stopping t.effect.ending ≡ false
 
 -- Each state of a history is plain.
@@ -72,24 +62,11 @@ pushed test i = if test i.to then (i.to, Message Three (push_of i.keys)) ∷ [] 
 abbrev pub pushes : (ℕ → Bool) → List Invalidation → List (ℕ × Sending)
 pushes test told = flat_map (pushed test) told
 
--- the group of what a command signals: the holders of its keys that are not passed over, or all
--- that track
-abbrev pub signalled_group : Signalled → (ℕ → Bool) → List ℕ → List Held → List Invalidation
-signalled_group (Keys keys) is_passed tracking rows =
-    filter (λ i. not (is_passed i.to)) (group keys rows)
-signalled_group All is_passed tracking rows = told_to None tracking
-
 abbrev pub tests_before : State → ℕ → Bool
 tests_before s c = takes_pushes (is_on s) (s.modes c) c
 
 abbrev pub tests_then : Action → State → ℕ → Bool
 tests_then t s c = takes_pushes (is_on s) (modes_then t s c) c
-
-abbrev pub told_then : Limits → Action → State → List Invalidation
-told_then l t s =
-    signalled_group t.effect.signalled (is_passed t s) (ids_where (tracks s) s.admitted)
-    (rows_then t s)
-    ++ drop_group (dropped l.table_max (rows_grown t s))
 
 -- a connection that quits is sent its end last
 abbrev pub quit_end : Action → List (ℕ × Sending)
@@ -98,7 +75,7 @@ quit_end t = if is_quitting t.effect.ending then (t.by, End) ∷ [] else []
 -- what a plain action sends
 abbrev pub plain_sends : Limits → Action → State → List (ℕ × Sending)
 plain_sends l t s =
-    pushes (tests_before s) (group t.expired s.table)
+    pushes (tests_before s) (expiry_told t s)
     ++ replies t
-    ++ pushes (tests_then t s) (told_then l t s)
+    ++ pushes (tests_then t s) (later_told l t s)
     ++ quit_end t

@@ -10,7 +10,7 @@ use Rattle.track_table.specs.declared.table.Held.{Held}
 use Rattle.track_table.specs.Table.{holders_of, with_keys, without_key, without_keys}
 use Rattle.track_table.specs.Table.{without_connection}
 use Rattle.prefix_table.specs.declared.table.Registration.{Registration}
-use Rattle.prefix_table.specs.Table.{registered}
+use Rattle.prefix_table.specs.Table.{with_prefixes}
 use Rattle.prefix_table.specs.Table as registrations
 pub use Rattle.redirect.specs.Messages.{push_of}
 use Rattle.serial_model.specs.Modes.{Memory, Remembers, Registers, Forgets}
@@ -29,10 +29,6 @@ remembering id (Registers prefixes) rows = rows
 remembering id Forgets rows = without_connection id rows
 
 -- ---- what is registered: prefixes in byte order, each with its connections
-
-abbrev pub with_prefixes : ℕ → List (List ℕ) → List Registration → List Registration
-with_prefixes id [] rows = rows
-with_prefixes id (p ∷ ps) rows = with_prefixes id ps (registered id p rows)
 
 -- what is registered after a connection's command
 abbrev pub registering : ℕ → Memory → List Registration → List Registration

@@ -6,7 +6,7 @@ ghost use Rattle.serial_model.specs.Laws.{FreshIsFirst, FreshIsSentNothing, Give
 ghost use Rattle.serial_model.specs.Laws.{LegalIsAdded, LimitIsKept, MessagesAreLive};
 ghost use Rattle.serial_model.specs.Laws.{ModeByOwnRuns, NextAfterMark, OthersExtend, PostedIsSent};
 ghost use Rattle.serial_model.specs.Laws.{PostsAreNumbered, ReadIsOwedOrTold, ReadReplies};
-ghost use Rattle.serial_model.specs.Laws.{ReplyBehindExpiry, RunsLive, SentGrows};
+ghost use Rattle.serial_model.specs.Laws.{RegisteredIsMode, ReplyBehindExpiry, RunsLive, SentGrows};
 ghost use Rattle.serial_model.specs.Laws.{ToldEndsForCause, ToldIsDue, ToldIsSent};
 ghost use Rattle.serial_model.specs.Laws.{WaitingIsUnsent};
 
@@ -169,4 +169,10 @@ pub fn law_read_is_owed_or_told()
 /// tracking or ends.
 pub fn law_told_ends_for_cause()
     ensures { ToldEndsForCause }
+{}
+
+/// A connection has registered a prefix of a key exactly where it has not ended and its mode has
+/// one.
+pub fn law_registered_is_mode()
+    ensures { RegisteredIsMode }
 {}

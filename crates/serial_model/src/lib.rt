@@ -16,8 +16,9 @@ pub use laws::{
     law_fresh_is_first, law_fresh_is_sent_nothing, law_given_is_stream, law_legal_is_added,
     law_limit_is_kept, law_messages_are_live, law_mode_by_own_runs, law_next_after_mark,
     law_others_extend, law_posted_is_sent, law_posts_are_numbered, law_read_is_owed_or_told,
-    law_read_replies, law_reply_behind_expiry, law_runs_live, law_sent_grows,
-    law_told_ends_for_cause, law_told_is_due, law_told_is_sent, law_waiting_is_unsent,
+    law_read_replies, law_registered_is_mode, law_reply_behind_expiry, law_runs_live,
+    law_sent_grows, law_told_ends_for_cause, law_told_is_due, law_told_is_sent,
+    law_waiting_is_unsent,
 };
 pub use plain::law_states_are_plain;
 pub use standing::Standing;

@@ -52,6 +52,8 @@ use Rattle.server_book.specs.Sendings.{end_posts}
 use Rattle.server_book.specs.Stores.{IsHeld}
 use Rattle.server_book.proofs.Sendings.{at_same, at_other}
 use Rattle.track_table.specs.Table.{TableState, without_connection}
+use Rattle.prefix_table.specs.declared.table.Registration.{Registration}
+use Rattle.prefix_table.specs.Table as registrations
 use Rattle.serial_model.proofs.TableSize.{table_within}
 use Rattle.server_book.specs.BookState.{BookState, IsTurn, Agrees, HasRoom, HasRun, connection_of}
 use Rattle.server_book.specs.BookState.{IsBook}
@@ -161,7 +163,7 @@ pub some_open : (room id : ℕ) (cs : List Connection) → HasRoom room cs → I
 some_open room id cs h on keeps = grind (arith, get_or-le-sum_by)
 
 module _ (l : Limits) (past : List Entry) (space : Space) (keys : TableState)
-    (cs : List Connection) (k : Agrees l past space keys cs) where
+    (rs : List Registration) (cs : List Connection) (k : Agrees l past space keys rs cs) where
   -- a connection that may do something was admitted
   pub reads_there : (id : ℕ) → reads_on l past id ≡ true → is_admitted past id ≡ true
   reads_there id on = (and_parts (is_admitted past id) _ on).0
@@ -207,12 +209,13 @@ module _ (l : Limits) (past : List Entry) (space : Space) (keys : TableState)
       ]
 
   pub agrees_admit : (id : ℕ) → id ≡ length cs + 1
-      → Agrees l (entry.Admit id ∷ past) space keys (cs ++ fresh ∷ [])
+      → Agrees l (entry.Admit id ∷ past) space keys rs (cs ++ fresh ∷ [])
   unfolding state
   agrees_admit id e = record {
     legal = (e ∙ ap (λ n. n + 1) k.count, k.legal);
     space_is = k.space_is;
     table_is = k.table_is;
+    prefixes_are = k.prefixes_are;
     count = length-append cs (fresh ∷ []) ∙ ap (λ n. n + 1) k.count;
     each = with_one id;
   }
@@ -234,12 +237,13 @@ module _ (l : Limits) (past : List Entry) (space : Space) (keys : TableState)
 
   pub agrees_take : (id m : ℕ) → gives_on l past id ≡ true
       → (take m (unsent l id past) ≡ [] → ⊥)
-      → Agrees l (entry.Take id m ∷ past) space keys (with_connection cs id (took id m))
+      → Agrees l (entry.Take id m ∷ past) space keys rs (with_connection cs id (took id m))
   unfolding state
   agrees_take id m on some = record {
     legal = (on, some, k.legal);
     space_is = k.space_is;
     table_is = k.table_is;
+    prefixes_are = k.prefixes_are;
     count = length-set cs (id - 1) (took id m) ∙ k.count;
     each = each_with (entry.Take id m ∷ past) id (took id m) (is_id id (gives_there id on))
         (ap (λ (c : Connection). record c { queue = drop m c.queue })
@@ -272,40 +276,55 @@ module _ (l : Limits) (past : List Entry) (space : Space) (keys : TableState)
   pub agrees_close : (id : ℕ) → reads_on l past id ≡ true
       → (let rows = table l (entry.Close id ∷ past) in
       Agrees l (entry.Close id ∷ past) space (record { limit = l.table_max; rows = rows })
-      (with_connection cs id (closed id)))
+      (state l (entry.Close id ∷ past)).prefixes (with_connection cs id (closed id)))
   unfolding state
   agrees_close id on = record {
     legal = (on, k.legal);
     space_is = k.space_is;
     table_is = refl;
+    prefixes_are = refl;
     count = length-set cs (id - 1) (closed id) ∙ k.count;
     each = each_with (entry.Close id ∷ past) id (closed id) (is_id id (reads_there id on))
         (ap gone (kept_of id (reads_there id on)) ∙ sym (kept_close l past id))
         (λ other ne. kept_close_other l past other id ne);
   }
 
+-- equal parts agree with the same past
+pub agrees_as : (l : Limits) (past : List Entry) (space : Space) (t u : TableState)
+    (rs qs : List Registration) (cs ds : List Connection) → u ≡ t → qs ≡ rs → ds ≡ cs
+    → Agrees l past space t rs cs → Agrees l past space u qs ds
+agrees_as l past space t u rs qs cs ds tables prefixes connections k =
+    subst (λ x. Agrees l past space x qs ds) (sym tables)
+    (subst (λ x. Agrees l past space t x ds) (sym prefixes)
+    (subst (Agrees l past space t rs) (sym connections) k))
+
 -- a book before its first turn
 fresh_agrees : (l : Limits)
-    → Agrees l [] empty (record { limit = l.table_max; rows = [] }) []
+    → Agrees l [] empty (record { limit = l.table_max; rows = [] }) [] []
 unfolding state
 fresh_agrees l = record {
   legal = tt;
   space_is = refl;
   table_is = refl;
+  prefixes_are = refl;
   count = refl;
   each = λ id on. absurd (omega (arith, on.0, on.1));
 }
 
 pub begins : (l : Limits) (log : LogState) (stores : Stores) → log.past ≡ []
     → log.most ≡ l.history_max → stores.space ≡ empty
-    → stores.table ≡ record { limit = l.table_max; rows = [] } → stores.connections.items ≡ []
+    → stores.table ≡ record { limit = l.table_max; rows = [] } → stores.prefixes ≡ []
+    → stores.connections.items ≡ []
     → IsBook l log stores
-begins l log stores none most space rows nobody = record {
-  agrees = subst (λ p. Agrees l p stores.space stores.table stores.connections.items) (sym none)
-      (subst (λ s. Agrees l [] s stores.table stores.connections.items) (sym space)
-      (subst (λ t. Agrees l [] empty t stores.connections.items) (sym rows)
-      (subst (Agrees l [] empty (record { limit = l.table_max; rows = [] })) (sym nobody)
-      (fresh_agrees l))));
+begins l log stores none most space rows unregistered nobody = record {
+  agrees = subst (λ p. Agrees l p stores.space stores.table stores.prefixes
+      stores.connections.items) (sym none)
+      (subst (λ s. Agrees l [] s stores.table stores.prefixes stores.connections.items) (sym space)
+      (subst (λ t. Agrees l [] empty t stores.prefixes stores.connections.items) (sym rows)
+      (subst (λ rs. Agrees l [] empty (record { limit = l.table_max; rows = [] }) rs
+      stores.connections.items) (sym unregistered)
+      (subst (Agrees l [] empty (record { limit = l.table_max; rows = [] }) []) (sym nobody)
+      (fresh_agrees l)))));
   most_is = most;
   room = subst (HasRoom log.closable) (sym nobody) (omega arith);
 }
@@ -315,18 +334,25 @@ pub table_close : (l : Limits) (past : List Entry) (id : ℕ)
 unfolding state
 table_close l past id = refl
 
+pub prefixes_close : (l : Limits) (past : List Entry) (id : ℕ)
+    → (state l (entry.Close id ∷ past)).prefixes
+    ≡ registrations.without_connection id (state l past).prefixes
+unfolding state
+prefixes_close l past id = refl
+
 -- an entry after which those can be closed that could before
 pub room_kept : (l : Limits) (past : List Entry) (e : Entry) (closable : ℕ) (space : Space)
-    (keys : TableState) (cs : List Connection) → Agrees l past space keys cs
-    → (then : Space) (left : TableState) (ds : List Connection)
-    → Agrees l (e ∷ past) then left ds → length ds ≡ length cs
+    (keys : TableState) (rs : List Registration) (cs : List Connection)
+    → Agrees l past space keys rs cs
+    → (then : Space) (left : TableState) (stay : List Registration) (ds : List Connection)
+    → Agrees l (e ∷ past) then left stay ds → length ds ≡ length cs
     → ((i : ℕ) → keeps_bytes ((state l (e ∷ past)).standing i)
     ≡ keeps_bytes ((state l past).standing i))
     → HasRoom closable cs → HasRoom closable ds
-room_kept l past e closable space keys cs k then left ds a same stand h =
+room_kept l past e closable space keys rs cs k then left stay ds a same stand h =
     let within = open_within cs ds same (λ i lt on.
-    ap keeps_bytes (stands_at l past space keys cs k i lt) ∙ sym (stand (i + 1))
-    ∙ sym (ap keeps_bytes (stands_at l (e ∷ past) then left ds a i (omega (arith, lt, same))))
+    ap keeps_bytes (stands_at l past space keys rs cs k i lt) ∙ sym (stand (i + 1))
+    ∙ sym (ap keeps_bytes (stands_at l (e ∷ past) then left stay ds a i (omega (arith, lt, same))))
     ∙ on) in
     omega (arith, h, within)
 

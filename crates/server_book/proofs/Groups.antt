@@ -11,7 +11,6 @@ use Rattle.track_table.specs.declared.table.Held.{Held}
 use Rattle.track_table.specs.Places.{nobody}
 use Rattle.track_table.specs.Table.{holders_of, without_key}
 use Rattle.serial_model.specs.Laws.{is_among}
-use Rattle.serial_model.specs.History.{Sending}
 use Rattle.serial_model.specs.Plain.{pushes}
 use Rattle.serial_model.specs.Tracking.{AreApart, Invalidation, drop_group, group, told_of}
 use Rattle.serial_model.proofs.KeyHolders.{keys_apart}
@@ -79,36 +78,40 @@ pushes_append : (test : ℕ → Bool) (xs ys : List Invalidation)
 pushes_append test [] ys = refl
 pushes_append test (x ∷ xs) ys = grind (arith, append_assoc, pushes_append test xs ys)
 
--- the holders of row after row are told, but the one that is passed over
-module _ (n : ℕ) (but : Option ℕ) (old now : ConnectionsState) (rows : List Held) (k : ℕ) where
-  abbrev pub so_far : List (ℕ × Sending)
-  so_far = pushes (is_told but old.items) (drop_group (take k rows))
+-- more are told behind others, but the one that is passed over
+pub told_behind : (n : ℕ) (but : Option ℕ) (old now next : ConnectionsState)
+    (told more : List Invalidation)
+    → now ≡ with_sendings n (pushes (is_told but old.items) told) old
+    → next ≡ with_sendings n (pushes (is_told but now.items) more) now
+    → next ≡ with_sendings n (pushes (is_told but old.items) (told ++ more)) old
+told_behind n but old now next told more so_far sent =
+    let test = is_told but old.items in
+    let first = pushes test told in
+    sent
+    ∙ ap (λ (s : ConnectionsState). with_sendings n (pushes (is_told but s.items) more) s) so_far
+    ∙ ap (λ x. with_sendings n x (with_sendings n first old))
+    (pushes_same (is_told but (with_sendings n first old).items) test more
+    (told_same n first old (pushes_there but old.items told) but))
+    ∙ sym (sendings_append n first (pushes test more) old)
+    ∙ ap (λ x. with_sendings n x old) (sym (pushes_append test told more))
 
-  pub so_far_there : AreTo old.items so_far
-  so_far_there = pushes_there but old.items (drop_group (take k rows))
-
-  -- one row more
-  pub told_more : (key ids : List ℕ) (next : ConnectionsState) → now ≡ with_sendings n so_far old
-      → k < length rows
-      → key ≡ (slice_index_or rows k nobody).key
-      → ids ≡ (slice_index_or rows k nobody).holders
-      → next ≡ with_sendings n (pushes (is_told but now.items) (told_of key ids)) now
-      → next ≡ with_sendings n
-      (pushes (is_told but old.items) (drop_group (take (k + 1) rows))) old
-  told_more key ids next told lt at is sent =
-      let test = is_told but old.items in
-      sent
-      ∙ ap (λ (s : ConnectionsState). with_sendings n (pushes (is_told but s.items)
-      (told_of key ids)) s) told
-      ∙ ap (λ x. with_sendings n x (with_sendings n so_far old))
-      (pushes_same (is_told but (with_sendings n so_far old).items) test (told_of key ids)
-      (told_same n so_far old so_far_there but))
-      ∙ sym (sendings_append n so_far (pushes test (told_of key ids)) old)
-      ∙ ap (λ x. with_sendings n x old)
-      (sym (pushes_append test (drop_group (take k rows)) (told_of key ids))
-      ∙ ap (pushes test) (ap (λ x. drop_group (take k rows) ++ told_of x ids) at
-      ∙ ap (λ x. drop_group (take k rows) ++ told_of (slice_index_or rows k nobody).key x) is
-      ∙ sym (rows_next rows k lt)))
+-- the holders of one row more
+pub told_more : (n : ℕ) (but : Option ℕ) (old now : ConnectionsState) (rows : List Held) (k : ℕ)
+    (key ids : List ℕ) (next : ConnectionsState)
+    → now ≡ with_sendings n (pushes (is_told but old.items) (drop_group (take k rows))) old
+    → k < length rows
+    → key ≡ (slice_index_or rows k nobody).key
+    → ids ≡ (slice_index_or rows k nobody).holders
+    → next ≡ with_sendings n (pushes (is_told but now.items) (told_of key ids)) now
+    → next ≡ with_sendings n
+    (pushes (is_told but old.items) (drop_group (take (k + 1) rows))) old
+told_more n but old now rows k key ids next so_far lt at is sent =
+    let first = drop_group (take k rows) in
+    told_behind n but old now next first (told_of key ids) so_far sent
+    ∙ ap (λ x. with_sendings n (pushes (is_told but old.items) x) old)
+    (ap (λ x. first ++ told_of x ids) at
+    ∙ ap (λ x. first ++ told_of (slice_index_or rows k nobody).key x) is
+    ∙ sym (rows_next rows k lt))
 
 -- and nobody is passed over
 pub rows_there : (old : ConnectionsState) (rows : List Held) (k : ℕ)

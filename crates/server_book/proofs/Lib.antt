@@ -3,6 +3,7 @@ pub mod Refusals
 pub mod Sendings
 pub mod Remembered
 pub mod Groups
+pub mod PrefixGroups
 pub mod Undoing
 pub mod BookTurns
 pub mod Runs

@@ -13,31 +13,35 @@ use Rattle.track_table.specs.declared.table.Held.{Held}
 use Rattle.command_words.specs.declared.command.Signalled.{Signalled}
 use Rattle.command_words.specs.declared.command.Signalled.TheVariants.{Keys, All}
 use Rattle.track_table.specs.Table.{TableState, dropped, kept, without_connection, without_keys}
+use Rattle.prefix_table.specs.declared.table.Registration.{Registration}
+use Rattle.prefix_table.specs.Table as registrations
 use Rattle.track_modes.specs.Commands.{spent_mode}
 use Rattle.track_modes.specs.ModeState.{ModeState, is_noloop, is_on as is_tracking}
 use Rattle.serial_model.specs.declared.history.Limits.{Limits}
 use Rattle.serial_model.specs.declared.history.Entry.{Entry}
 use Rattle.serial_model.specs.declared.history.Entry.TheVariants as entry
 use Rattle.serial_model.specs.Modes.{is_quitting}
-use Rattle.serial_model.specs.Tracking.{Invalidation, drop_group, group, ids_where}
+use Rattle.serial_model.specs.Tracking.{Invalidation, drop_group, ids_where, registering}
+use Rattle.serial_model.specs.Tracking.{signal_group, whole_group}
 use Rattle.serial_model.specs.declared.standing.Standing.{Standing}
 use Rattle.serial_model.specs.declared.standing.Standing.TheVariants.{Live, Quit}
-use Rattle.serial_model.specs.State.{State, is_live, is_on, keeps_bytes}
+use Rattle.serial_model.specs.State.{State, for_each, is_live, is_on, keeps_bytes}
 use Rattle.serial_model.specs.Actions.{Action, is_passed, modes_then, rows_then, replies, to_one}
 use Rattle.serial_model.specs.Actions.{tracks as tracks_in, is_overgrown}
+use Rattle.serial_model.specs.Actions.{expiry_told as expiry_told_in, later_told}
 use Rattle.serial_model.specs.Actions.{Sending, Message, End, spelled}
 use Rattle.serial_model.specs.History.{runs_on, latest, has_ended, unsent, posted, state}
 use Rattle.serial_model.specs.History.{sends, sent_to, sent_bytes}
 use Rattle.serial_model.specs.History.{posts_of, run_action, table, expired, is_quit}
 use Rattle.serial_model.specs.History.{table_grown}
-use Rattle.serial_model.specs.Plain.{pushes, quit_end, signalled_group, tests_before, tests_then}
-use Rattle.serial_model.specs.Plain.{takes_pushes, told_then}
+use Rattle.serial_model.specs.Plain.{pushes, quit_end, takes_pushes, tests_before, tests_then}
 use Rattle.serial_model.proofs.Counts.{admitted_is, on_is}
 use Rattle.serial_model.proofs.Each.{in_append}
 use Rattle.serial_model.proofs.Fresh.{action_sends_off}
 use Rattle.serial_model.proofs.PlainActions.{run_sends}
 use Rattle.serial_model.proofs.ModeSteps.{mode_own, mode_other}
-use Rattle.serial_model.proofs.StateSteps.{run_stands_other, run_stands_own, run_table, run_space}
+use Rattle.serial_model.proofs.StateSteps.{run_ends_are, run_space, run_stands_other}
+use Rattle.serial_model.proofs.StateSteps.{run_stands_own, run_table}
 use Rattle.serial_model.proofs.Streams.{keeps_run, not_ended, run_bytes, unsent_run}
 use Rattle.serial_model.proofs.Streams.{unsent_run_ended}
 use Rattle.serial_model.proofs.TableSize.{table_within, without_keys_within, without_within}
@@ -48,12 +52,13 @@ use Rattle.server_book.specs.declared.plan.Plan.{Plan}
 use Rattle.server_book.specs.Connections.{ConnectionsState, IsId, connection_at}
 use Rattle.server_book.specs.Connections.{is_there, is_open, IsOpen}
 use Rattle.server_book.specs.Plans.{signals_of, memory_of, told_by, kept_by, becomes, mode_by}
-use Rattle.server_book.specs.Plans.{quits, remembered_by}
+use Rattle.server_book.specs.Plans.{quits, registered_by, remembered_by}
 use Rattle.server_book.specs.RunSendings.{command_told, end_by, expiry_told, passes, reply_sent}
 use Rattle.server_book.specs.RunSendings.{settled, settled_one, standing_by, unpassed}
 use Rattle.server_book.specs.Sendings.{is_pushed, tracking_ids}
 use Rattle.server_book.specs.Sendings.{tracks as tracks_of}
 use Rattle.server_book.specs.BookState.{Agrees, connection_of}
+use Rattle.server_book.proofs.PrefixGroups.{nothing_told}
 use Rattle.server_book.proofs.Remembered.{short_dropped}
 use Rattle.server_book.proofs.Sendings.{at_same, at_other, AreTo, sent_at, more, test_same}
 use Rattle.server_book.proofs.Sendings.{test_kept}
@@ -75,6 +80,29 @@ pub bytes_append : (n c : ℕ) (xs ys : List (ℕ × Sending))
     ≡ sent_bytes (sent_to n c xs) ++ sent_bytes (sent_to n c ys)
 bytes_append n c xs ys = grind (arith, sent_to-append, flat_map-append)
 
+-- ---- the registered prefixes behind a Run
+
+left_where : (q : Bool) (id : ℕ) (rs : List Registration)
+    → for_each registrations.without_connection (cond q (id ∷ []) []) rs
+    ≡ cond q (registrations.without_connection id rs) rs
+left_where true id rs = refl
+left_where false id rs = refl
+
+-- a connection that quits leaves them
+run_prefixes : (l : Limits) (past : List Entry) (id m : ℕ) (words : List (List ℕ))
+    → runs_on l past id ≡ true
+    → (let t = run_action id words m (state l past) in
+    let after = registering id t.effect.memory (state l past).prefixes in
+    (state l (entry.Run id words m ∷ past)).prefixes
+    ≡ cond (is_quit words) (registrations.without_connection id after) after)
+unfolding state
+run_prefixes l past id m words on =
+    let s = state l past in
+    let after = registering id (run_action id words m s).effect.memory s.prefixes in
+    ap (λ ids. for_each registrations.without_connection ids after)
+    (run_ends_are l id words m s (on_is l past id ∙ on))
+    ∙ left_where (is_quit words) id after
+
 -- ---- a connection that is settled
 
 module _ (id : ℕ) (deed : Deed) (st : ConnectionsState) where
@@ -95,12 +123,12 @@ module _ (id : ℕ) (deed : Deed) (st : ConnectionsState) where
 
 -- ---- a deed that leaves another mode tells nobody
 
-quiet_told : (limit id : ℕ) (deed : Deed) (mode : ModeState) (passed : ℕ → Bool)
-    (tracking : List ℕ) (rows : List Held)
-    → length rows ≤ limit → becomes deed ≡ Some mode
-    → told_by limit id deed passed tracking rows ≡ []
-quiet_told limit id deed mode passed tracking rows short is =
-    grind (arith, short_dropped, without_within)
+quiet_told : (id : ℕ) (deed : Deed) (mode : ModeState) (passed : ℕ → Bool)
+    (tracking : List ℕ) (table : TableState) (prefixes : List Registration)
+    → length table.rows ≤ table.limit → becomes deed ≡ Some mode
+    → told_by id deed passed tracking table prefixes ≡ []
+quiet_told id deed mode passed tracking table prefixes short is =
+    grind (arith, short_dropped, without_within, nothing_told)
 
 -- ---- who is passed over
 
@@ -110,10 +138,11 @@ filter_same f g [] same = refl
 filter_same f g (i ∷ told) same = grind (arith, same i.to, filter_same f g told same)
 
 signalled_same : (sig : Signalled) (f g : ℕ → Bool) (tracking : List ℕ) (rows : List Held)
-    → ((c : ℕ) → f c ≡ g c)
-    → signalled_group sig f tracking rows ≡ signalled_group sig g tracking rows
-signalled_same (Keys keys) f g tracking rows same = filter_same f g (group keys rows) same
-signalled_same All f g tracking rows same = refl
+    (prefixes : List Registration) → ((c : ℕ) → f c ≡ g c)
+    → signal_group sig f tracking rows prefixes ≡ signal_group sig g tracking rows prefixes
+signalled_same (Keys keys) f g tracking rows prefixes same =
+    filter_same f g (whole_group keys rows prefixes) same
+signalled_same All f g tracking rows prefixes same = refl
 
 passed_one : (id c : ℕ) (f g : ℕ → Bool) → f id ≡ g id
     → ((id == c) && f c) ≡ ((id == c) && g c)
@@ -128,8 +157,8 @@ spent_takes : (on : ℕ → Bool) (m : ModeState) (c : ℕ)
 spent_takes on m c = refl
 
 module _ (l : Limits) (past : List Entry) (space : Space) (keys : TableState)
-    (cs : List Connection) (k : Agrees l past space keys cs) (m : ℕ) (gone : List (List ℕ))
-    (gone_is : gone ≡ expired l past m) where
+    (rs : List Registration) (cs : List Connection) (k : Agrees l past space keys rs cs) (m : ℕ)
+    (gone : List (List ℕ)) (gone_is : gone ≡ expired l past m) where
   abbrev pub old : ConnectionsState
   old = record { items = cs; posts = [] }
 
@@ -151,17 +180,19 @@ module _ (l : Limits) (past : List Entry) (space : Space) (keys : TableState)
 
   -- whom a Run or a Tick tells first
   abbrev pub first_told : List Invalidation
-  first_told = group gone keys.rows
+  first_told = whole_group gone keys.rows rs
 
-  first_is : first_told ≡ group (expired l past m) now.table
+  first_is : first_told ≡ whole_group (expired l past m) now.table now.prefixes
   first_is =
-      ap (λ x. group x keys.rows) gone_is
-      ∙ ap (λ (t : TableState). group (expired l past m) t.rows) k.table_is
+      ap (λ x. whole_group x keys.rows rs) gone_is
+      ∙ ap (λ (t : TableState). whole_group (expired l past m) t.rows rs) k.table_is
+      ∙ ap (whole_group (expired l past m) now.table) k.prefixes_are
 
   abbrev pub early : List (ℕ × Sending)
   early = pushes (is_pushed cs) first_told
 
-  pub early_is : early ≡ pushes (tests_before now) (group (expired l past m) now.table)
+  pub early_is : early
+      ≡ pushes (tests_before now) (whole_group (expired l past m) now.table now.prefixes)
   early_is =
       pushes_same (is_pushed cs) (tests_before now) first_told test_is
       ∙ ap (pushes (tests_before now)) first_is
@@ -171,7 +202,7 @@ module _ (l : Limits) (past : List Entry) (space : Space) (keys : TableState)
 
   module _ (n : ℕ) where
     abbrev pub first : ConnectionsState
-    first = expiry_told n gone keys old
+    first = expiry_told n gone keys rs old
 
     pub length_first : length first.items ≡ length cs
     length_first = length_sendings n early old
@@ -207,7 +238,7 @@ module _ (l : Limits) (past : List Entry) (space : Space) (keys : TableState)
       run = entry.Run id words m
 
       own_there : IsId cs id
-      own_there = is_id l past space keys cs k id (runs_there l past space keys cs k id on)
+      own_there = is_id l past space keys rs cs k id (runs_there l past space keys rs cs k id on)
 
       on_first : IsId first.items id
       on_first = (own_there.0, let le = own_there.1 in omega (arith, le, length_first))
@@ -274,13 +305,12 @@ module _ (l : Limits) (past : List Entry) (space : Space) (keys : TableState)
 
       -- those whom the deed tells are those whom the Run tells behind its reply
       abbrev pub told : List Invalidation
-      told = told_by left.limit id plan.deed (passes second.items id) (tracking_ids second.items)
-          left.rows
+      told = told_by id plan.deed (passes second.items id) (tracking_ids second.items) left rs
 
       own_mode : kept_mode (now.standing id) (now.modes id) ≡ now.modes id
       own_mode =
           sym (ap (λ (c : Connection). c.mode) (k.each id own_there))
-          ∙ mode_of l past space keys cs k id on
+          ∙ mode_of l past space keys rs cs k id on
 
       passes_is : (c : ℕ) → passes second.items id c ≡ is_passed t now c
       passes_is c =
@@ -289,11 +319,13 @@ module _ (l : Limits) (past : List Entry) (space : Space) (keys : TableState)
           (ap (λ (x : ModeState). is_noloop x.tracking)
           ((second_parts id own_there).0 ∙ own_mode))
 
-      told_is : told ≡ told_then l t now
+      told_is : told ≡ later_told l t now
       told_is =
           ap (λ x. x ++ drop_group (dropped left.limit (remembered_by id plan.deed left.rows)))
           (signalled_same (signals_of plan.deed) (passes second.items id) (is_passed t now)
-          (tracking_ids second.items) left.rows passes_is)
+          (tracking_ids second.items) left.rows rs passes_is
+          ∙ ap (signal_group (signals_of plan.deed) (is_passed t now) (tracking_ids second.items)
+          left.rows) k.prefixes_are)
           ∙ grind (arith, left_is, tracking_is)
 
       kept_is : kept_by left.limit id plan.deed left.rows ≡ table l (run ∷ past)
@@ -307,6 +339,20 @@ module _ (l : Limits) (past : List Entry) (space : Space) (keys : TableState)
           grown_is : kept left.limit (remembered_by id plan.deed left.rows)
               ≡ kept l.table_max (table_grown l past id words m)
           grown_is = grind (arith, left_is)
+
+      registered_is : registered_by id plan.deed rs ≡ (state l (run ∷ past)).prefixes
+      registered_is =
+          ap (λ b. cond b
+          (registrations.without_connection id (registering id (memory_of plan.deed) rs))
+          (registering id (memory_of plan.deed) rs)) ending
+          ∙ ap (λ x. cond (is_quit words) (registrations.without_connection id x) x) grown_is
+          ∙ sym (run_prefixes l past id m words on)
+        where
+          grown_is : registering id (memory_of plan.deed) rs
+              ≡ registering id t.effect.memory now.prefixes
+          grown_is =
+              ap (λ x. registering id x rs) remembers
+              ∙ ap (registering id t.effect.memory) k.prefixes_are
 
       abbrev pub pushed : List (ℕ × Sending)
       pushed = pushes (is_pushed second.items) told
@@ -346,11 +392,11 @@ module _ (l : Limits) (past : List Entry) (space : Space) (keys : TableState)
           (λ c. same_takes c (sym becoming
           ∙ ap (λ b. option_map_or (λ x. x) b (spent_mode (now.modes id))) is))
       told_then_is (Some mode) is =
-          let none = quiet_told left.limit id plan.deed mode (passes second.items id)
-          (tracking_ids second.items) left.rows short is in
+          let none = quiet_told id plan.deed mode (passes second.items id)
+          (tracking_ids second.items) left rs short is in
           ap (pushes (tests_before now)) none ∙ sym (ap (pushes (tests_then t now)) none)
 
-      pushed_is : pushed ≡ pushes (tests_then t now) (told_then l t now)
+      pushed_is : pushed ≡ pushes (tests_then t now) (later_told l t now)
       pushed_is =
           pushes_same (is_pushed second.items) (tests_before now) told second_test
           ∙ told_then_is (becomes plan.deed) refl ∙ ap (pushes (tests_then t now)) told_is
@@ -359,7 +405,7 @@ module _ (l : Limits) (past : List Entry) (space : Space) (keys : TableState)
       end_is = ap (λ b. cond b ((id, End) ∷ []) []) ending
 
       abbrev pub after : ConnectionsState
-      after = command_told n id plan left second
+      after = command_told n id plan left rs second
 
       length_after : length after.items ≡ length cs
       length_after = length_sendings n sent second ∙ length_second
@@ -386,9 +432,9 @@ module _ (l : Limits) (past : List Entry) (space : Space) (keys : TableState)
       sends_are : sends l run now ≡ (early ++ reply ∷ []) ++ sent
       sends_are =
           run_sends l past id words m on
-          ∙ ap (λ x. ((pushes (tests_before now) (group t.expired now.table) ++ x)
-          ++ pushes (tests_then t now) (told_then l t now)) ++ quit_end t) reply_is
-          ∙ ap (λ x. ((x ++ reply ∷ []) ++ pushes (tests_then t now) (told_then l t now))
+          ∙ ap (λ x. ((pushes (tests_before now) (expiry_told_in t now) ++ x)
+          ++ pushes (tests_then t now) (later_told l t now)) ++ quit_end t) reply_is
+          ∙ ap (λ x. ((x ++ reply ∷ []) ++ pushes (tests_then t now) (later_told l t now))
           ++ quit_end t) (sym early_is)
           ∙ ap (λ x. ((early ++ reply ∷ []) ++ x) ++ quit_end t) (sym pushed_is)
           ∙ ap (λ x. ((early ++ reply ∷ []) ++ pushed) ++ x) (sym end_is)
@@ -441,7 +487,7 @@ module _ (l : Limits) (past : List Entry) (space : Space) (keys : TableState)
       on_after = (
         there_after,
         ap is_open after_own ∙ ap is_open (sym (k.each id own_there))
-            ∙ (opened l past space keys cs k id on).1,
+            ∙ (opened l past space keys rs cs k id on).1,
       )
 
       own_is : connection_at final.items id
@@ -502,7 +548,8 @@ module _ (l : Limits) (past : List Entry) (space : Space) (keys : TableState)
       pub agrees_run : (new : Space) → latest past ≤ m
           → new ≡ t.effect.space
           → (let rows = kept_by left.limit id plan.deed left.rows in
-          Agrees l (run ∷ past) new (record keys { rows = rows }) final.items)
+          Agrees l (run ∷ past) new (record keys { rows = rows }) (registered_by id plan.deed rs)
+          final.items)
       agrees_run new later s = record {
         legal = (on, later, k.legal);
         space_is = s ∙ sym (run_space l past id m words);
@@ -510,6 +557,7 @@ module _ (l : Limits) (past : List Entry) (space : Space) (keys : TableState)
             ap (λ rows. record keys { rows = rows }) kept_is
             ∙ ap (λ limit. record { limit = limit; rows = table l (run ∷ past) })
             (ap (λ (t : TableState). t.limit) k.table_is);
+        prefixes_are = registered_is;
         count = length_final ∙ k.count;
         each = λ i there. elim (cases_eq id i) [
           | inl e ↦

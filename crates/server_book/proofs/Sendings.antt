@@ -2,7 +2,7 @@
 use Rattle.std.proofs.Common.{◌≡◌, ◌+◌, ◌-◌, ◌<◌, ◌≤◌, ℕ, List, [], ◌∷◌, ◌++◌, length, take, sym}
 use Rattle.std.proofs.Common.{ap, ◌∙◌, refl, arith, true, false, cond, Bool, length-append}
 use Rattle.std.proofs.Common.{length-set, slice_index_or, slice_set, append_assoc, append-nil, inl}
-use Rattle.std.proofs.Common.{inr, eq-eqb, ne_eqb, Result, OnErr, Option, Some, None}
+use Rattle.std.proofs.Common.{inr, eq-eqb, ne_eqb, Result, OnErr, OnOk, Option, Some, None}
 use Rattle.std.specs.Prelude.{◌==◌, ◌&&◌, nat_lt, nat_le, not}
 use Prim.Native.Nat.{zero, suc}
 use Rattle.std.proofs.lemmas.Bool.{cases_eq, and_parts}
@@ -31,6 +31,9 @@ use Rattle.server_book.specs.Sendings.{unqueued, before_posts, size_of, message_
 -- what holds holds of an error, and of a success
 pub on_err : {A E : Type 0} (r : Result A E) (P : Type 0) → P → OnErr r P
 on_err r P h = grind arith
+
+pub on_ok_then : {A E : Type 0} (r : Result A E) (P Q : Type 0) → (P → Q) → OnOk r P → OnOk r Q
+on_ok_then r P Q f h = grind arith
 
 pub on_err_then : {A E : Type 0} (r : Result A E) (P Q : Type 0) → (P → Q) → OnErr r P → OnErr r Q
 on_err_then r P Q f h = grind arith

@@ -4,6 +4,8 @@ use Rattle.std.proofs.Common.{refl, arith, true, false, append-nil, max, Some}
 use Rattle.command_words.specs.Expiry.{without_due}
 use Rattle.command_words.specs.Space.{Space}
 use Rattle.track_table.specs.Table.{TableState, without_keys}
+use Rattle.prefix_table.specs.declared.table.Registration.{Registration}
+use Rattle.prefix_table.specs.Table as registrations
 use Rattle.serial_model.specs.declared.effect.EntryKind.TheVariants as kind
 use Rattle.serial_model.specs.declared.history.BookCall.TheVariants.{Tick}
 use Rattle.serial_model.specs.declared.history.BookReply.TheVariants.{Ticked, Quiet}
@@ -11,10 +13,9 @@ use Rattle.serial_model.specs.declared.history.Limits.{Limits}
 use Rattle.serial_model.specs.declared.history.Entry.{Entry}
 use Rattle.serial_model.specs.declared.history.Entry.TheVariants as entry
 use Rattle.serial_model.specs.EntryEffects.{bare_effect, last_effect}
-use Rattle.serial_model.specs.Plain.{pushes, tests_before, tests_then, told_then}
-use Rattle.serial_model.specs.State.{State, is_on}
-use Rattle.serial_model.specs.Actions.{Action, Sending, is_overgrown}
-use Rattle.serial_model.specs.Tracking.{group}
+use Rattle.serial_model.specs.Plain.{pushes, tests_before, tests_then}
+use Rattle.serial_model.specs.State.{State, for_each, is_on}
+use Rattle.serial_model.specs.Actions.{Action, Sending, expiry_told, is_overgrown, later_told}
 use Rattle.serial_model.specs.History.{latest, has_ended, unsent, posted, sends, sent_to}
 use Rattle.serial_model.specs.History.{expired, state, tick_action, keyspace, posts_of, sent_bytes}
 use Rattle.serial_model.specs.History.{table}
@@ -23,20 +24,21 @@ use Rattle.serial_model.proofs.Counts.{on_is}
 use Rattle.serial_model.proofs.Fresh.{action_sends_off}
 use Rattle.serial_model.proofs.ModeSteps.{mode_tick}
 use Rattle.serial_model.proofs.PlainActions.{tick_sends}
-use Rattle.serial_model.proofs.StateSteps.{tick_stands, tick_table}
+use Rattle.serial_model.proofs.StateSteps.{none_by_tick, tick_stands, tick_table}
 use Rattle.serial_model.proofs.Streams.{tick_bytes, unsent_tick, unsent_tick_ended}
 use Rattle.serial_model.proofs.TableSize.{table_within, without_keys_within}
 use Rattle.serial_model.proofs.Turning.{tick_step}
 use Rattle.server_book.specs.Places.{Connection}
 use Rattle.server_book.specs.Connections.{IsId, connection_at}
 use Rattle.server_book.specs.BookState.{Agrees, connection_of}
+use Rattle.server_book.proofs.PrefixGroups.{nothing_told}
 use Rattle.server_book.proofs.Remembered.{short_dropped}
 use Rattle.server_book.proofs.Runs.{early, early_is, first, first_at, first_posts, length_first}
 use Rattle.server_book.proofs.BookTurns.{same_kept, same_parts}
 
 module _ (l : Limits) (past : List Entry) (space : Space) (keys : TableState)
-    (cs : List Connection) (k : Agrees l past space keys cs) (m n : ℕ) (gone : List (List ℕ))
-    (gone_is : gone ≡ expired l past m) (number : n ≡ length past + 1) where
+    (rs : List Registration) (cs : List Connection) (k : Agrees l past space keys rs cs) (m n : ℕ)
+    (gone : List (List ℕ)) (gone_is : gone ≡ expired l past m) (number : n ≡ length past + 1) where
   abbrev now : State
   now = state l past
 
@@ -47,24 +49,24 @@ module _ (l : Limits) (past : List Entry) (space : Space) (keys : TableState)
   tick = entry.Tick m
 
   abbrev sent : List (ℕ × Sending)
-  sent = early l past space keys cs k m gone gone_is
+  sent = early l past space keys rs cs k m gone gone_is
 
   abbrev told : List Connection
-  told = (first l past space keys cs k m gone gone_is n).items
+  told = (first l past space keys rs cs k m gone gone_is n).items
 
-  -- no key is remembered, so none is past the table's limit
-  none_dropped : told_then l t now ≡ []
-  none_dropped = grind (arith, short_dropped, without_keys_within, table_within)
+  -- no command signals a key, and none is remembered, so that none is past the table's limit
+  none_dropped : later_told l t now ≡ []
+  none_dropped = grind (arith, short_dropped, without_keys_within, table_within, nothing_told)
 
   sends_are : sends l tick now ≡ sent
   sends_are =
       tick_sends l past m
-      ∙ ap (λ x. ((pushes (tests_before now) (group t.expired now.table) ++ [])
+      ∙ ap (λ x. ((pushes (tests_before now) (expiry_told t now) ++ [])
       ++ pushes (tests_then t now) x) ++ []) none_dropped
-      ∙ append-nil ((pushes (tests_before now) (group t.expired now.table) ++ []) ++ [])
-      ∙ append-nil (pushes (tests_before now) (group t.expired now.table) ++ [])
-      ∙ append-nil (pushes (tests_before now) (group t.expired now.table))
-      ∙ sym (early_is l past space keys cs k m gone gone_is)
+      ∙ append-nil ((pushes (tests_before now) (expiry_told t now) ++ []) ++ [])
+      ∙ append-nil (pushes (tests_before now) (expiry_told t now) ++ [])
+      ∙ append-nil (pushes (tests_before now) (expiry_told t now))
+      ∙ sym (early_is l past space keys rs cs k m gone gone_is)
 
   bytes_are : (c : ℕ) → tick_bytes l past m c ≡ sent_bytes (sent_to n c sent)
   bytes_are c =
@@ -86,21 +88,27 @@ module _ (l : Limits) (past : List Entry) (space : Space) (keys : TableState)
 
   each : (i : ℕ) → IsId cs i → connection_at told i ≡ connection_of l (tick ∷ past) i
   each i there =
-      first_at l past space keys cs k m gone gone_is n i there
+      first_at l past space keys rs cs k m gone gone_is n i there
       ∙ same_parts (ap (λ x. unsent l i past ++ x) (sym (bytes_are i)) ∙ sym (unsent_after i))
       (sym (tick_stands l past i m))
       (same_kept (sym (tick_stands l past i m)) (sym (mode_tick l i m past)))
 
   pub length_told : length told ≡ length cs
-  length_told = length_first l past space keys cs k m gone gone_is n
+  length_told = length_first l past space keys rs cs k m gone gone_is n
 
   tick_space : keyspace l (tick ∷ past) ≡ without_due m (keyspace l past)
   unfolding state
   tick_space = refl
 
+  tick_prefixes : (state l (tick ∷ past)).prefixes ≡ now.prefixes
+  unfolding state
+  tick_prefixes =
+      ap (λ ids. for_each registrations.without_connection ids now.prefixes)
+      (none_by_tick l m now)
+
   pub agrees_tick : (new : Space) → (gone ≡ [] → ⊥) → latest past ≤ m
       → new ≡ without_due m space
-      → Agrees l (tick ∷ past) new (record keys { rows = without_keys gone keys.rows }) told
+      → Agrees l (tick ∷ past) new (record keys { rows = without_keys gone keys.rows }) rs told
   agrees_tick new some later s = record {
     legal = ((λ none. some (gone_is ∙ none)), later, k.legal);
     space_is = s ∙ ap (without_due m) k.space_is ∙ sym tick_space;
@@ -108,14 +116,16 @@ module _ (l : Limits) (past : List Entry) (space : Space) (keys : TableState)
         ap (λ (t : TableState). record t { rows = without_keys gone t.rows }) k.table_is
         ∙ ap (λ rows. record { limit = l.table_max; rows = rows })
         (ap (λ g. without_keys g (table l past)) gone_is ∙ sym (tick_table l past m));
+    prefixes_are = k.prefixes_are ∙ sym tick_prefixes;
     count = length_told ∙ k.count;
     each = λ i there. each i (there.0, let le = there.1 in omega (arith, le, length_told));
   }
 
-  pub posted_tick : (first l past space keys cs k m gone gone_is n).posts ≡ posted l (tick ∷ past)
+  pub posted_tick : (first l past space keys rs cs k m gone gone_is n).posts
+      ≡ posted l (tick ∷ past)
   unfolding posted
   posted_tick =
-      first_posts l past space keys cs k m gone gone_is n
+      first_posts l past space keys rs cs k m gone gone_is n
       ∙ ap (λ x. posts_of x sent) number ∙ ap (posts_of (length past + 1)) (sym sends_are)
 
 -- whether keys are due, by their number

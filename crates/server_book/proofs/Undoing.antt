@@ -5,7 +5,7 @@ use Rattle.track_table.specs.Table.{without_keys}
 use Rattle.serial_model.specs.declared.history.Post.{Post}
 use Rattle.serial_model.specs.Actions.{Sending}
 use Rattle.serial_model.specs.Plain.{pushes}
-use Rattle.serial_model.specs.Tracking.{group}
+use Rattle.serial_model.specs.Tracking.{Invalidation}
 use Rattle.serial_model.proofs.KeptTables.{table_without_keys}
 use Rattle.serial_model.proofs.TableSize.{without_keys_within}
 use Rattle.server_book.specs.Connections.{ConnectionsState, IsId, IsOpen, connection_at, is_open}
@@ -29,12 +29,12 @@ reply_back n id st message on =
     before_last st.posts post (queued st.items id message)
     ∙ ap (before_posts st.posts) (unqueued_queued st.items post message on.0 refl)
 
--- the holders of the keys that left were told
-module _ (n id : ℕ) (old now : ConnectionsState) (keys : List (List ℕ)) (rows : List Held)
+-- those were told whom the keys that left concern
+module _ (n id : ℕ) (old now : ConnectionsState) (group : List Invalidation)
     (on : IsOpen old.items id) (none : old.posts ≡ [])
-    (told : now ≡ with_sendings n (pushes (is_pushed old.items) (group keys rows)) old) where
+    (told : now ≡ with_sendings n (pushes (is_pushed old.items) group) old) where
   abbrev sent : List (ℕ × Sending)
-  sent = pushes (is_pushed old.items) (group keys rows)
+  sent = pushes (is_pushed old.items) group
 
   pub length_told : length now.items ≡ length old.items
   length_told =
@@ -48,12 +48,12 @@ module _ (n id : ℕ) (old now : ConnectionsState) (keys : List (List ℕ)) (row
     on_there,
     ap (λ (s : ConnectionsState). is_open (connection_at s.items id)) told
         ∙ ap is_open
-        (sent_at n id sent old on.0 (pushes_there None old.items (group keys rows)))
+        (sent_at n id sent old on.0 (pushes_there None old.items group))
         ∙ on.1,
   )
 
   pub told_none : before_posts now.posts now.items ≡ old.items
   told_none =
       ap (λ (s : ConnectionsState). before_posts s.posts s.items) told
-      ∙ before_sendings n sent old (pushes_there None old.items (group keys rows))
+      ∙ before_sendings n sent old (pushes_there None old.items group)
       ∙ ap (λ ps. before_posts ps old.items) none

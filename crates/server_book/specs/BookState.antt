@@ -21,6 +21,7 @@ use Rattle.serial_model.specs.History.{runs_on, gives_on, reads_on, run_action}
 use Rattle.server_book.specs.declared.book.RunDone.{RunDone}
 use Rattle.serial_model.specs.History.{table as table_of}
 use Rattle.track_table.specs.Table.{TableState}
+use Rattle.prefix_table.specs.declared.table.Registration.{Registration}
 use Rattle.server_book.specs.declared.stores.Stores.{Stores}
 use Rattle.serial_model.specs.Steps.{BookStep}
 use Rattle.server_book.specs.Places.{Connection, kept_mode}
@@ -84,12 +85,14 @@ connection_of l past id =
       mode = kept_mode (s.standing id) (s.modes id);
     }
 
--- the history is legal, and the keyspace, the remembered keys and the connections are those of it
+-- the history is legal, and the keyspace, the remembered keys, the registered prefixes and the
+-- connections are those of it
 pub record Agrees (l : Limits) (past : List Entry) (space : Space) (table : TableState)
-    (connections : List Connection) : Type 0 where
+    (prefixes : List Registration) (connections : List Connection) : Type 0 where
   pub legal : IsLegal l past
   pub space_is : space ≡ keyspace l past
   pub table_is : table ≡ record { limit = l.table_max; rows = table_of l past }
+  pub prefixes_are : prefixes ≡ (state l past).prefixes
   pub count : length connections ≡ admitted past
   pub each : (id : ℕ) → IsId connections id → connection_at connections id ≡ connection_of l past id
 
@@ -98,7 +101,8 @@ abbrev pub HasRoom : ℕ → List Connection → Type 0
 HasRoom room connections = count_by is_open connections ≤ room
 
 pub record IsBook (l : Limits) (log : LogState) (stores : Stores) : Type 0 where
-  pub agrees : Agrees l log.past stores.space stores.table stores.connections.items
+  pub agrees : Agrees l log.past stores.space stores.table stores.prefixes
+      stores.connections.items
   pub most_is : log.most ≡ l.history_max
   pub room : HasRoom log.closable stores.connections.items
 

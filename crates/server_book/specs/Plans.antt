@@ -9,14 +9,15 @@ use Rattle.command_words.specs.declared.command.WordFault.{WordFault}
 use Rattle.command_words.specs.Space.{Space}
 use Rattle.track_table.specs.declared.table.Held.{Held}
 use Rattle.resp_value.specs.declared.value.Value.{Value}
-use Rattle.track_table.specs.Table.{dropped, kept, without_connection}
+use Rattle.track_table.specs.Table.{TableState, dropped, kept, without_connection}
+use Rattle.prefix_table.specs.declared.table.Registration.{Registration}
+use Rattle.prefix_table.specs.Table as registrations
 use Rattle.track_modes.specs.Commands.{spent_mode}
 use Rattle.track_modes.specs.ModeState.{ModeState, prefixes_of}
 use Rattle.serial_model.specs.Modes.{Runner, Memory, Remembers, Registers, Forgets, own_effect}
 use Rattle.serial_model.specs.Modes.{ending_of, is_quitting}
-use Rattle.serial_model.specs.Plain.{signalled_group}
-use Rattle.serial_model.specs.Tracking.{AreApart, Invalidation, drop_group, remembering}
-use Rattle.serial_model.specs.Tracking.{without_signalled}
+use Rattle.serial_model.specs.Tracking.{AreApart, Invalidation, drop_group, registering}
+use Rattle.serial_model.specs.Tracking.{remembering, signal_group, without_signalled}
 use Rattle.serial_model.specs.History.{effect_of}
 use Rattle.server_book.specs.declared.deed.Deed.{Deed}
 use Rattle.server_book.specs.declared.deed.Deed.TheVariants.{Nothing, Tell, TellAll, Remember}
@@ -78,10 +79,11 @@ remembered_by id deed rows =
 
 -- whom a deed tells, where some are passed over and these track, then the holders of the keys that
 -- it pushes out
-abbrev pub told_by : ℕ → ℕ → Deed → (ℕ → Bool) → List ℕ → List Held → List Invalidation
-told_by limit id deed is_passed tracking rows =
-    signalled_group (signals_of deed) is_passed tracking rows
-    ++ drop_group (dropped limit (remembered_by id deed rows))
+abbrev pub told_by : ℕ → Deed → (ℕ → Bool) → List ℕ → TableState → List Registration
+    → List Invalidation
+told_by id deed is_passed tracking table prefixes =
+    signal_group (signals_of deed) is_passed tracking table.rows prefixes
+    ++ drop_group (dropped table.limit (remembered_by id deed table.rows))
 
 -- a connection that ends remembers nothing
 abbrev pub left_by : ℕ → Deed → List Held → List Held
@@ -89,6 +91,12 @@ left_by id deed rows = if quits deed then without_connection id rows else rows
 
 abbrev pub kept_by : ℕ → ℕ → Deed → List Held → List Held
 kept_by limit id deed rows = left_by id deed (kept limit (remembered_by id deed rows))
+
+-- the registered prefixes after a deed of a connection; one that ends has none
+abbrev pub registered_by : ℕ → Deed → List Registration → List Registration
+registered_by id deed prefixes =
+    let after = registering id (memory_of deed) prefixes in
+    if quits deed then registrations.without_connection id after else after
 
 -- who runs words that name no target of a redirection, where none is broken
 abbrev pub runner : ℕ → ModeState → Runner

@@ -3,8 +3,9 @@ use Rattle.std.specs.Prelude.{◌==◌, ◌&&◌, ℕ, List, [], ◌∷◌, ◌+
 use Rattle.std.specs.Prelude.{not, if◌then◌else◌}
 use Rattle.track_modes.specs.ModeState.{is_noloop}
 use Rattle.track_table.specs.Table.{TableState, without_keys}
+use Rattle.prefix_table.specs.declared.table.Registration.{Registration}
 use Rattle.serial_model.specs.Plain.{pushes}
-use Rattle.serial_model.specs.Tracking.{Invalidation, group}
+use Rattle.serial_model.specs.Tracking.{Invalidation, whole_group}
 use Rattle.serial_model.specs.History.{Sending, End, spelled}
 use Rattle.serial_model.specs.declared.standing.Standing.{Standing}
 use Rattle.serial_model.specs.declared.standing.Standing.TheVariants.{Quit}
@@ -16,10 +17,12 @@ use Rattle.server_book.specs.Plans.{mode_by, quits, told_by}
 use Rattle.server_book.specs.Sendings.{is_pushed, message_post, queued, tracking_ids}
 use Rattle.server_book.specs.Sendings.{with_sendings}
 
--- the connections once those who held the keys that left are told
-abbrev pub expiry_told : ℕ → List (List ℕ) → TableState → ConnectionsState → ConnectionsState
-expiry_told entry expired table state =
-    with_sendings entry (pushes (is_pushed state.items) (group expired table.rows)) state
+-- the connections once those are told who held the keys that left, or registered a prefix of them
+abbrev pub expiry_told : ℕ → List (List ℕ) → TableState → List Registration → ConnectionsState
+    → ConnectionsState
+expiry_told entry expired table prefixes state =
+    let told = whole_group expired table.rows prefixes in
+    with_sendings entry (pushes (is_pushed state.items) told) state
 
 -- once the reply is sent
 abbrev pub reply_sent : ℕ → ℕ → Plan → ConnectionsState → ConnectionsState
@@ -43,23 +46,24 @@ abbrev pub end_by : ℕ → Deed → List (ℕ × Sending)
 end_by id deed = if quits deed then (id, End) ∷ [] else []
 
 -- what a deed sends: to those whom it tells, and then the end of its connection
-abbrev pub sent_by : ℕ → Deed → TableState → List Connection → List (ℕ × Sending)
-sent_by id deed table connections =
-    let told = told_by table.limit id deed (passes connections id) (tracking_ids connections)
-    table.rows in
+abbrev pub sent_by : ℕ → Deed → TableState → List Registration → List Connection
+    → List (ℕ × Sending)
+sent_by id deed table prefixes connections =
+    let told = told_by id deed (passes connections id) (tracking_ids connections) table prefixes in
     pushes (is_pushed connections) told ++ end_by id deed
 
 -- and once those are told whom the command tells, over the remembered keys that are left
-abbrev pub command_told : ℕ → ℕ → Plan → TableState → ConnectionsState → ConnectionsState
-command_told entry id plan table state =
-    with_sendings entry (sent_by id plan.deed table state.items) state
-
-abbrev pub run_sendings : ℕ → ℕ → List (List ℕ) → Plan → TableState → ConnectionsState
+abbrev pub command_told : ℕ → ℕ → Plan → TableState → List Registration → ConnectionsState
     → ConnectionsState
-run_sendings entry id expired plan table state =
+command_told entry id plan table prefixes state =
+    with_sendings entry (sent_by id plan.deed table prefixes state.items) state
+
+abbrev pub run_sendings : ℕ → ℕ → List (List ℕ) → Plan → TableState → List Registration
+    → ConnectionsState → ConnectionsState
+run_sendings entry id expired plan table prefixes state =
     command_told entry id plan
-    (record table { rows = without_keys expired table.rows })
-    (reply_sent entry id plan (expiry_told entry expired table state))
+    (record table { rows = without_keys expired table.rows }) prefixes
+    (reply_sent entry id plan (expiry_told entry expired table prefixes state))
 
 -- how far a connection has ended after its deed
 abbrev pub standing_by : Deed → Standing → Standing

@@ -1,13 +1,16 @@
 -- What sendings do to the connections, and what taking them back does.
 use Rattle.std.specs.Prelude.{◌-◌, ◌==◌, ◌&&◌, ℕ, List, [], ◌∷◌, ◌++◌, Bool, length, not, take}
-use Rattle.std.specs.Prelude.{Option, Some, None, if◌then◌else◌}
+use Rattle.std.specs.Prelude.{Option, Some, None, if◌then◌else◌, filter, nat_eq, slice_index_or}
+use Rattle.std.specs.List.{starts_with}
+use Rattle.prefix_table.specs.declared.table.Registration.{Registration}
+use Rattle.prefix_table.specs.Table.{nothing}
 use Rattle.serial_model.specs.declared.history.Post.{Post}
 use Rattle.serial_model.specs.declared.history.Posted.{Posted}
 use Rattle.serial_model.specs.declared.history.Posted.TheVariants.{Message, End}
 use Rattle.serial_model.specs.Plain.{takes_pushes}
 use Rattle.serial_model.specs.State as state
 use Rattle.serial_model.specs.declared.standing.Standing.{Standing}
-use Rattle.serial_model.specs.Tracking.{ids_where}
+use Rattle.serial_model.specs.Tracking.{Invalidation, ids_where, told_to}
 use Rattle.serial_model.specs.History.{Sending, sending_bytes, posted_of}
 use Rattle.server_book.specs.Places.{Connection}
 use Rattle.server_book.specs.Connections.{ConnectionsState, connection_at, with_connection}
@@ -18,6 +21,13 @@ use Rattle.track_modes.specs.ModeState as track
 abbrev pub told_keys : Option (List ℕ) → Option (List (List ℕ))
 told_keys None = None
 told_keys (Some key) = Some (key ∷ [])
+
+-- those who registered the prefix at a place are told, by one message each, of the keys that start
+-- with it
+abbrev pub told_at : List (List ℕ) → List Registration → ℕ → List Invalidation
+told_at keys prefixes n =
+    let r = slice_index_or prefixes n nothing in
+    told_to (Some (filter (λ key. starts_with nat_eq key r.prefix) keys)) r.ids
 
 -- a connection that tracks and has not ended
 abbrev pub tracks : List Connection → ℕ → Bool

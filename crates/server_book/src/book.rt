@@ -299,7 +299,7 @@ impl Book {
             moment,
         )?;
         match self.stores.send_run(entry, id, expired.as_slice(), &plan) {
-            Ok(()) => {}
+            Ok(()) => self.stores.space.keep_place(undo),
             Err(_) => {
                 self.stores.space.undo_due(undo);
                 return Err(NoMemory);
@@ -384,7 +384,7 @@ impl Book {
         Ok(BookReply::Bytes { entry, bytes })
     }
 
-    // The room for the entry and for its post was kept. What the connection remembers goes.
+    // The room for the entry and for its post was kept. What was kept for the connection goes.
     fn close(&mut self, id: u64) -> BookReply
         requires accepted { IsAccepted self.old.limits self.old.past (call.Close id) }
         requires none { IsClear self.old }
@@ -393,7 +393,7 @@ impl Book {
         let entry = self.log.next();
         self.log.push(Entry::Close { id });
         self.stores.connections.close(entry, id);
-        self.stores.table.forget_connection(id);
+        self.stores.forget(id);
         self.effect = Some(bare_effect(self.stores.alloc, entry, id, EntryKind::Close));
         BookReply::Closed { entry }
     }

@@ -4,7 +4,7 @@ ghost use Rattle.command_words.specs.declared.command.Command.TheVariants as com
 ghost use Rattle.command_words.specs.Effects.{has_row};
 ghost use Rattle.command_words.specs.Space.{Space};
 ghost use Rattle.serial_model.specs.History.{served};
-ghost use Rattle.serial_model.specs.Modes.{is_served_tracking, pong};
+ghost use Rattle.serial_model.specs.Modes.{accepted, is_served_tracking, pong};
 ghost use Rattle.serial_model.specs.Plain.{IsPlainMode};
 ghost use Rattle.server_book.specs.Plans.{IsPlanOf, IsQuiet, answered, runner};
 ghost use Rattle.track_modes.specs.Commands.{after_command, command_fault};
@@ -18,14 +18,11 @@ use resp_value::{NoMemory, Octets, Proto, Value, Words};
 use std::alloc::Global;
 use track_modes::{Mode, ModeFault};
 
-/// CLIENT TRACKING OFF, or with options that concern neither another connection nor a prefix.
+/// CLIENT TRACKING OFF, or with options that concern no other connection.
 pub fn is_served_tracking(options: &TrackOptions) -> bool
     ensures { result ≡ is_served_tracking options.now }
 {
-    let of_keys_read = options.redirect.is_none()
-        && !options.bcast
-        && options.prefixes.as_slice().is_empty();
-    !options.on || of_keys_read
+    !(options.on && options.redirect.is_some())
 }
 
 // A command is answered, and does no more.
@@ -37,6 +34,13 @@ fn answered(mode: &Mode, reply: Value) -> Plan
         proto: mode.peer().proto,
         deed: Deed::Nothing,
     }
+}
+
+// The reply to a command that is accepted.
+fn accepted(alloc: Global) -> Result<Value, NoMemory>
+    ensures { IfOk result (λ v. v ≡ accepted None) }
+{
+    Ok(Value::Simple(Octets::from_slice(alloc, b"OK")?))
 }
 
 fn pong(alloc: Global, text: &Option<Octets>) -> Result<Value, NoMemory>
@@ -117,7 +121,7 @@ fn plan_quit(by: Caller, mode: &Mode) -> Result<Plan, NoMemory>
     ensures { IfOk result (λ p. IsPlanOf p (runner by.id mode.now) commands.Quit) }
 {
     Ok(Plan {
-        reply: Value::Simple(Octets::from_slice(by.alloc, b"OK")?),
+        reply: accepted(by.alloc)?,
         proto: mode.peer().proto,
         deed: Deed::Quit,
     })
@@ -139,7 +143,7 @@ fn plan_tracking(by: Caller, mode: &Mode, options: &TrackOptions) -> Result<Plan
     let mut next = mode.copy()?;
     match next.apply_tracking(options, true) {
         Ok(()) => {
-            let reply = Value::Simple(Octets::from_slice(by.alloc, b"OK")?);
+            let reply = accepted(by.alloc)?;
             next.spend();
             Ok(Plan {
                 reply,
@@ -167,9 +171,8 @@ fn plan_caching(by: Caller, mode: &Mode, is_yes: bool) -> Result<Plan, NoMemory>
     let mut next = mode.copy()?;
     match next.apply_caching(is_yes) {
         Ok(()) => {
-            let reply = Value::Simple(Octets::from_slice(by.alloc, b"OK")?);
             Ok(Plan {
-                reply,
+                reply: accepted(by.alloc)?,
                 proto: next.peer().proto,
                 deed: Deed::Become(next),
             })
@@ -182,12 +185,11 @@ fn plan_caching(by: Caller, mode: &Mode, is_yes: bool) -> Result<Plan, NoMemory>
 }
 
 #[tactic(auto, unfolding(track_modes::specs::Commands::fault_at))]
-fn plan_getredir(by: Caller, mode: &Mode) -> Result<Plan, NoMemory>
+fn plan_getredir(mode: &Mode) -> Plan
     requires { IsPlainMode mode.now }
-    ensures { IfOk result (λ p. IsPlanOf p (runner by.id mode.now) commands.ClientGetRedir) }
+    ensures { (id : ℕ) → IsPlanOf result (runner id mode.now) commands.ClientGetRedir }
 {
-    let _caller = by.id;
-    Ok(answered(mode, Value::Number(redirect_number(mode))))
+    answered(mode, Value::Number(redirect_number(mode)))
 }
 
 #[tactic(auto, unfolding(track_modes::specs::Commands::fault_at))]
@@ -226,7 +228,7 @@ pub fn plan_command(
             }
         }
         Command::ClientCaching(is_yes) => plan_caching(by, mode, *is_yes),
-        Command::ClientGetRedir => plan_getredir(by, mode),
+        Command::ClientGetRedir => Ok(plan_getredir(mode)),
         Command::ClientTrackingInfo => plan_info(by, mode),
         _ => plan_fault(by, mode, words, WordFault::Unknown),
     }

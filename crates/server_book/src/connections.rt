@@ -1,6 +1,7 @@
 //! What the server keeps of its connections, by their ids, and what it sends them.
 ghost use Rattle.std.specs.Prelude.{◌≡◌, ◌++◌, ◌∷◌, [], ◌+◌, ◌^◌, ◌<◌, ◌≤◌, true, false, OnOk};
-ghost use Rattle.std.specs.Prelude.{OnErr, IfOk, length, take, drop, option_map};
+ghost use Rattle.std.specs.Prelude.{OnErr, IfOk, length, take, drop, option_map, List, ℕ, Option};
+ghost use Rattle.redirect.specs.Messages as messages;
 ghost use Rattle.serial_model.specs.Actions.{spelled};
 ghost use Rattle.serial_model.specs.Plain.{pushes};
 ghost use Rattle.serial_model.specs.declared.standing.Standing.TheVariants.{Quit};
@@ -304,10 +305,30 @@ impl Connections {
             return Ok(());
         }
         let push = push_of(alloc, key)?;
-        let message = &push;
+        self.send_push(entry, &push, but, to)
+    }
+
+    /// Sends a push to those of these connections that track on the third protocol and are not
+    /// passed over. Where memory runs out, some of them were sent it.
+    pub fn send_push(
+        &mut self,
+        entry: u64,
+        push: &Value,
+        but: Option<u64>,
+        to: &[u64],
+    ) -> Result<(), NoMemory>
+        ensures ok { OnOk result ((keys : Option (List (List ℕ)))
+            → push.now ≡ messages.push_of keys
+            → self.new ≡ with_sendings entry
+            (pushes (is_told but self.old.items) (told_to keys to.now)) self.old) }
+        ensures err { OnErr result ((keys : Option (List (List ℕ)))
+            → push.now ≡ messages.push_of keys
+            → before_posts self.new.posts self.new.items
+            ≡ before_posts self.old.posts self.old.items) }
+    {
         for (place, id) in to.iter().enumerate() {
             if self.is_told(but, *id) {
-                self.send(entry, *id, Proto::Three, message)?;
+                self.send(entry, *id, Proto::Three, push)?;
             }
         }
         Ok(())

@@ -3,32 +3,38 @@ ghost use Rattle.std.specs.Prelude.{◌≡◌, ◌<◌, ◌∷◌, [], OnOk, OnE
 ghost use Rattle.std.specs.FinMap.{empty};
 ghost use Rattle.track_table.specs.Table.{dropped, kept, with_keys, without_connection};
 ghost use Rattle.track_table.specs.Table.{without_keys};
+ghost use Rattle.prefix_table.specs.Table as registrations;
 ghost use Rattle.serial_model.specs.Actions.{End};
 ghost use Rattle.serial_model.specs.Plain.{pushes};
-ghost use Rattle.serial_model.specs.Tracking.{AreApart, drop_group, group, told_to};
+ghost use Rattle.serial_model.specs.Tracking.{AreApart, drop_group, group, prefix_group, told_to};
+ghost use Rattle.serial_model.specs.Tracking.{whole_group};
 ghost use Rattle.server_book.specs.Connections.{IsId, IsOpen};
-ghost use Rattle.server_book.specs.Plans.{IsSound, kept_by, signals_of};
+ghost use Rattle.server_book.specs.Plans.{IsSound, kept_by, registered_by, signals_of};
 ghost use Rattle.server_book.specs.RunSendings.{command_told, passes, reply_sent, run_sendings};
 ghost use Rattle.server_book.specs.RunSendings.{sent_by, settled, unpassed};
 ghost use Rattle.server_book.specs.Sendings.{before_posts, is_pushed, is_told, tracking_ids};
-ghost use Rattle.server_book.specs.Sendings.{with_sendings};
+ghost use Rattle.server_book.specs.Sendings.{told_at, with_sendings};
 ghost use Rattle.server_book.specs.Stores.{IsHeld};
 
 use super::connections::Connections;
 use super::deed::Deed;
+use super::messages::push_under;
 use super::plan::Plan;
 use command_set::Database;
 use command_words::Signalled;
+use prefix_table::PrefixTable;
 use resp_value::{NoMemory, Octets, Words};
 use std::alloc::Global;
 use track_table::{Held, TrackTable};
 
-/// The keys, who remembers which of them, and the connections.
+/// The keys, who remembers which of them, who registered which prefixes of them, and the
+/// connections.
 #[derive(Drop)]
 pub struct Stores {
     pub alloc: Global,
     pub space: Database,
     pub table: TrackTable,
+    pub prefixes: PrefixTable,
     pub connections: Connections,
 }
 
@@ -68,6 +74,7 @@ impl Stores {
         requires { 0 < table_max }
         ensures space { IfOk result (λ s. s.space ≡ empty) }
         ensures table { IfOk result (λ s. s.table ≡ record { limit = table_max; rows = [] }) }
+        ensures prefixes { IfOk result (λ s. s.prefixes ≡ []) }
         ensures connections { IfOk result
             (λ s. s.connections ≡ record { items = []; posts = [] }) }
     {
@@ -75,6 +82,7 @@ impl Stores {
             alloc,
             space: Database::new(alloc),
             table: TrackTable::new(alloc, table_max),
+            prefixes: PrefixTable::new(alloc),
             connections: Connections::new(alloc)?,
         })
     }
@@ -83,6 +91,7 @@ impl Stores {
     fn remember(&mut self, entry: u64, id: u64, keys: &[Octets]) -> Result<(), NoMemory>
         requires id { IsId self.old.connections.items id }
         ensures space { self.new.space ≡ self.old.space }
+        ensures prefixes { self.new.prefixes ≡ self.old.prefixes }
         ensures table { OnOk result
             (let rows = with_keys id keys.now self.old.table.rows in
             self.new.table ≡ record self.old.table { rows = kept self.old.table.limit rows }) }
@@ -111,9 +120,9 @@ impl Stores {
         }
     }
 
-    /// Tells the holders of these keys but the one that is passed over, key by key; they hold them
-    /// still.
-    pub fn tell_keys(
+    // Tells the holders of these keys but the one that is passed over, key by key; they hold them
+    // still.
+    fn tell_holders(
         &mut self,
         entry: u64,
         but: Option<u64>,
@@ -122,6 +131,7 @@ impl Stores {
         requires apart { AreApart keys.now }
         ensures space { self.new.space ≡ self.old.space }
         ensures table { self.new.table ≡ self.old.table }
+        ensures prefixes { self.new.prefixes ≡ self.old.prefixes }
         ensures told { OnOk result
             (let group = group keys.now self.old.table.rows in
             self.new.connections
@@ -139,7 +149,92 @@ impl Stores {
         Ok(())
     }
 
-    // Tells the holders of these keys but the one that is passed over; all hold them no more.
+    // Tells the connections that registered the prefix at a place of those of these keys that start
+    // with it, but the one that is passed over.
+    fn tell_at(
+        &mut self,
+        entry: u64,
+        but: Option<u64>,
+        keys: &[Octets],
+        place: usize,
+    ) -> Result<(), NoMemory>
+        ensures space { self.new.space ≡ self.old.space }
+        ensures table { self.new.table ≡ self.old.table }
+        ensures prefixes { self.new.prefixes ≡ self.old.prefixes }
+        ensures told { OnOk result
+            (let told = told_at keys.now self.old.prefixes place in
+            self.new.connections
+            ≡ with_sendings entry (pushes (is_told but self.old.connections.items) told)
+            self.old.connections) }
+        ensures back { OnErr result
+            (before_posts self.new.connections.posts self.new.connections.items
+            ≡ before_posts self.old.connections.posts self.old.connections.items) }
+    {
+        match self.prefixes.at(place) {
+            Some((prefix, ids)) => {
+                let push = push_under(self.alloc, prefix, keys)?;
+                self.connections.send_push(entry, &push, but, ids)
+            }
+            None => Ok(()),
+        }
+    }
+
+    // Tells, prefix by prefix, the connections that registered a prefix of these keys, but the one
+    // that is passed over.
+    fn tell_prefixes(
+        &mut self,
+        entry: u64,
+        but: Option<u64>,
+        keys: &[Octets],
+    ) -> Result<(), NoMemory>
+        ensures space { self.new.space ≡ self.old.space }
+        ensures table { self.new.table ≡ self.old.table }
+        ensures prefixes { self.new.prefixes ≡ self.old.prefixes }
+        ensures told { OnOk result
+            (let group = prefix_group keys.now self.old.prefixes in
+            self.new.connections
+            ≡ with_sendings entry (pushes (is_told but self.old.connections.items) group)
+            self.old.connections) }
+        ensures back { OnErr result
+            (before_posts self.new.connections.posts self.new.connections.items
+            ≡ before_posts self.old.connections.posts self.old.connections.items) }
+    {
+        if self.prefixes.is_empty() {
+            return Ok(());
+        }
+        let places = self.prefixes.matching_any(keys)?;
+        for place in &places {
+            self.tell_at(entry, but, keys, *place)?;
+        }
+        Ok(())
+    }
+
+    /// Tells the holders of these keys, and then those who registered prefixes of them, but the one
+    /// that is passed over. They hold them still.
+    pub fn tell_keys(
+        &mut self,
+        entry: u64,
+        but: Option<u64>,
+        keys: &[Octets],
+    ) -> Result<(), NoMemory>
+        requires apart { AreApart keys.now }
+        ensures space { self.new.space ≡ self.old.space }
+        ensures table { self.new.table ≡ self.old.table }
+        ensures prefixes { self.new.prefixes ≡ self.old.prefixes }
+        ensures told { OnOk result
+            (let group = whole_group keys.now self.old.table.rows self.old.prefixes in
+            self.new.connections
+            ≡ with_sendings entry (pushes (is_told but self.old.connections.items) group)
+            self.old.connections) }
+        ensures back { OnErr result
+            (before_posts self.new.connections.posts self.new.connections.items
+            ≡ before_posts self.old.connections.posts self.old.connections.items) }
+    {
+        self.tell_holders(entry, but, keys)?;
+        self.tell_prefixes(entry, but, keys)
+    }
+
+    // Tells those whom these keys concern but the one that is passed over; all hold them no more.
     fn tell_and_forget(
         &mut self,
         entry: u64,
@@ -148,10 +243,11 @@ impl Stores {
     ) -> Result<(), NoMemory>
         requires apart { AreApart keys.now }
         ensures space { self.new.space ≡ self.old.space }
+        ensures prefixes { self.new.prefixes ≡ self.old.prefixes }
         ensures table { OnOk result (self.new.table
             ≡ record self.old.table { rows = without_keys keys.now self.old.table.rows }) }
         ensures told { OnOk result
-            (let group = group keys.now self.old.table.rows in
+            (let group = whole_group keys.now self.old.table.rows self.old.prefixes in
             self.new.connections
             ≡ with_sendings entry (pushes (is_told but self.old.connections.items) group)
             self.old.connections) }
@@ -168,6 +264,7 @@ impl Stores {
     // Tells those that track that no key is what it was; none is remembered any more.
     fn tell_flush(&mut self, entry: u64) -> Result<(), NoMemory>
         ensures space { self.new.space ≡ self.old.space }
+        ensures prefixes { self.new.prefixes ≡ self.old.prefixes }
         ensures table { OnOk result (self.new.table ≡ record self.old.table { rows = [] }) }
         ensures told { OnOk result
             (let group = told_to None (tracking_ids self.old.connections.items) in
@@ -186,16 +283,18 @@ impl Stores {
         Ok(())
     }
 
-    // Tells the holders of keys that a command signals; under NOLOOP its connection is passed over.
+    // Tells those whom the keys that a command signals concern; under NOLOOP its connection is
+    // passed over.
     fn tell_signalled(&mut self, entry: u64, id: u64, keys: &[Octets]) -> Result<(), NoMemory>
         requires id { IsId self.old.connections.items id }
         requires apart { AreApart keys.now }
         ensures space { self.new.space ≡ self.old.space }
+        ensures prefixes { self.new.prefixes ≡ self.old.prefixes }
         ensures table { OnOk result (self.new.table
             ≡ record self.old.table { rows = without_keys keys.now self.old.table.rows }) }
         ensures told { OnOk result
             (let group = unpassed (passes self.old.connections.items id)
-            (group keys.now self.old.table.rows) in
+            (whole_group keys.now self.old.table.rows self.old.prefixes) in
             self.new.connections
             ≡ with_sendings entry (pushes (is_pushed self.old.connections.items) group)
             self.old.connections) }
@@ -208,27 +307,43 @@ impl Stores {
         self.tell_and_forget(entry, but, keys)
     }
 
-    // Sends the connection's end, and forgets what it remembers.
+    /// The connection remembers no key any more, and has registered no prefix. It takes no memory.
+    pub fn forget(&mut self, id: u64)
+        ensures space { self.new.space ≡ self.old.space }
+        ensures table { let rows = without_connection id self.old.table.rows in
+            self.new.table ≡ record self.old.table { rows = rows } }
+        ensures prefixes { self.new.prefixes
+            ≡ registrations.without_connection id self.old.prefixes }
+        ensures connections { self.new.connections ≡ self.old.connections }
+    {
+        self.table.forget_connection(id);
+        self.prefixes.remove_connection(id);
+    }
+
+    // Sends the connection's end, and forgets what was kept for it.
     fn end(&mut self, entry: u64, id: u64) -> Result<(), NoMemory>
         requires id { IsId self.old.connections.items id }
         ensures space { self.new.space ≡ self.old.space }
         ensures table { OnOk result
             (let rows = without_connection id self.old.table.rows in
             self.new.table ≡ record self.old.table { rows = rows }) }
+        ensures prefixes { OnOk result
+            (self.new.prefixes ≡ registrations.without_connection id self.old.prefixes) }
         ensures sent { OnOk result
             (self.new.connections ≡ with_sendings entry ((id, End) ∷ []) self.old.connections) }
         ensures err { OnErr result (self.new.table ≡ self.old.table) }
+        ensures err_prefixes { OnErr result (self.new.prefixes ≡ self.old.prefixes) }
         ensures back { OnErr result
             (before_posts self.new.connections.posts self.new.connections.items
             ≡ before_posts self.old.connections.posts self.old.connections.items) }
     {
         self.connections.send_end(entry, id)?;
-        self.table.forget_connection(id);
+        self.forget(id);
         Ok(())
     }
 
-    // Tells those whom a request concerns, and remembers what it remembers. Where memory runs out
-    // all is as before, but for what was sent.
+    // Tells those whom a request concerns, and keeps what it remembers or registers. Where memory
+    // runs out all is as before, but for what was sent.
     fn carry_out(&mut self, entry: u64, id: u64, deed: &Deed) -> Result<(), NoMemory>
         requires held { IsHeld self.old.table.limit self.old.table.rows }
         requires id { IsId self.old.connections.items id }
@@ -237,21 +352,26 @@ impl Stores {
         ensures table { OnOk result
             (let rows = kept_by self.old.table.limit id deed.now self.old.table.rows in
             self.new.table ≡ record self.old.table { rows = rows }) }
+        ensures prefixes { OnOk result
+            (self.new.prefixes ≡ registered_by id deed.now self.old.prefixes) }
         ensures sent { OnOk result
-            (let sendings = sent_by id deed.now self.old.table self.old.connections.items in
+            (let sendings = sent_by id deed.now self.old.table self.old.prefixes
+            self.old.connections.items in
             self.new.connections ≡ with_sendings entry sendings self.old.connections) }
         ensures err { OnErr result (self.new.table ≡ self.old.table) }
+        ensures err_prefixes { OnErr result (self.new.prefixes ≡ self.old.prefixes) }
         ensures back { OnErr result
             (before_posts self.new.connections.posts self.new.connections.items
             ≡ before_posts self.old.connections.posts self.old.connections.items) }
     {
         match deed {
-            Deed::Nothing | Deed::Become(_) | Deed::Track(_) => Ok(()),
+            Deed::Nothing | Deed::Become(_) => Ok(()),
+            Deed::Track(mode) => self.prefixes.add_all(id, mode.tracking().prefixes()),
             Deed::Tell(keys) => self.tell_signalled(entry, id, keys.as_slice()),
             Deed::TellAll => self.tell_flush(entry),
             Deed::Remember(keys) => self.remember(entry, id, keys.as_slice()),
             Deed::Forget(_) => {
-                self.table.forget_connection(id);
+                self.forget(id);
                 Ok(())
             }
             Deed::Quit => self.end(entry, id),
@@ -267,10 +387,13 @@ impl Stores {
         ensures table { OnOk result
             (let rows = kept_by self.old.table.limit id plan.now.deed self.old.table.rows in
             self.new.table ≡ record self.old.table { rows = rows }) }
+        ensures prefixes { OnOk result
+            (self.new.prefixes ≡ registered_by id plan.now.deed self.old.prefixes) }
         ensures sent { OnOk result (self.new.connections
-            ≡ command_told entry id plan.now self.old.table
+            ≡ command_told entry id plan.now self.old.table self.old.prefixes
             (reply_sent entry id plan.now self.old.connections)) }
         ensures err { OnErr result (self.new.table ≡ self.old.table) }
+        ensures err_prefixes { OnErr result (self.new.prefixes ≡ self.old.prefixes) }
         ensures back { OnErr result
             (before_posts self.new.connections.posts self.new.connections.items
             ≡ before_posts self.old.connections.posts self.old.connections.items) }
@@ -279,7 +402,7 @@ impl Stores {
         self.carry_out(entry, id, &plan.deed)
     }
 
-    // What a Run sends, in order: the holders of the keys that are due are told, then comes its
+    // What a Run sends, in order: those are told whom the keys that are due concern, then comes its
     // reply, then whom it tells itself.
     fn send_groups(
         &mut self,
@@ -298,9 +421,13 @@ impl Stores {
             (let left = without_keys expired.now self.old.table.rows in
             let rows = kept_by self.old.table.limit id plan.now.deed left in
             self.new.table ≡ record self.old.table { rows = rows }) }
+        ensures prefixes { OnOk result
+            (self.new.prefixes ≡ registered_by id plan.now.deed self.old.prefixes) }
         ensures sent { OnOk result (self.new.connections
-            ≡ run_sendings entry id expired.now plan.now self.old.table self.old.connections) }
+            ≡ run_sendings entry id expired.now plan.now self.old.table self.old.prefixes
+            self.old.connections) }
         ensures err { OnErr result (self.new.table ≡ self.old.table) }
+        ensures err_prefixes { OnErr result (self.new.prefixes ≡ self.old.prefixes) }
         ensures back { OnErr result
             (before_posts self.new.connections.posts self.new.connections.items
             ≡ self.old.connections.items) }
@@ -316,8 +443,8 @@ impl Stores {
         }
     }
 
-    /// Sends what a Run sends, and remembers what it remembers. Where memory runs out all is as
-    /// before.
+    /// Sends what a Run sends, and keeps what it remembers or registers. Where memory runs out all
+    /// is as before.
     pub fn send_run(
         &mut self,
         entry: u64,
@@ -335,9 +462,13 @@ impl Stores {
             (let left = without_keys expired.now self.old.table.rows in
             let rows = kept_by self.old.table.limit id plan.now.deed left in
             self.new.table ≡ record self.old.table { rows = rows }) }
+        ensures prefixes { OnOk result
+            (self.new.prefixes ≡ registered_by id plan.now.deed self.old.prefixes) }
         ensures sent { OnOk result (self.new.connections
-            ≡ run_sendings entry id expired.now plan.now self.old.table self.old.connections) }
+            ≡ run_sendings entry id expired.now plan.now self.old.table self.old.prefixes
+            self.old.connections) }
         ensures err_table { OnErr result (self.new.table ≡ self.old.table) }
+        ensures err_prefixes { OnErr result (self.new.prefixes ≡ self.old.prefixes) }
         ensures err_connections { OnErr result (self.new.connections ≡ self.old.connections) }
     {
         match self.send_groups(entry, id, expired, plan) {
@@ -356,6 +487,7 @@ impl Stores {
         ensures signalled { result ≡ signals_of deed }
         ensures space { self.new.space ≡ self.old.space }
         ensures table { self.new.table ≡ self.old.table }
+        ensures prefixes { self.new.prefixes ≡ self.old.prefixes }
         ensures connections { self.new.connections ≡ settled id deed self.old.connections }
     {
         let none = Words::new(self.alloc);
@@ -378,16 +510,17 @@ impl Stores {
         Signalled::Keys(none)
     }
 
-    /// Sends what a Tick sends: the holders of the keys that left are told, and hold them no more.
-    /// Where memory runs out all is as before.
+    /// Sends what a Tick sends: those are told whom the keys that left concern, and none holds them
+    /// any more. Where memory runs out all is as before.
     pub fn send_tick(&mut self, entry: u64, expired: &[Octets]) -> Result<(), NoMemory>
         requires none { self.old.connections.posts ≡ [] }
         requires apart { AreApart expired.now }
         ensures space { self.new.space ≡ self.old.space }
+        ensures prefixes { self.new.prefixes ≡ self.old.prefixes }
         ensures table { OnOk result (self.new.table
             ≡ record self.old.table { rows = without_keys expired.now self.old.table.rows }) }
         ensures sent { OnOk result
-            (let group = group expired.now self.old.table.rows in
+            (let group = whole_group expired.now self.old.table.rows self.old.prefixes in
             self.new.connections
             ≡ with_sendings entry (pushes (is_pushed self.old.connections.items) group)
             self.old.connections) }

@@ -30,7 +30,7 @@ module _ (c : ℕ) (key : List ℕ) where
   told_append (x ∷ xs) ys = omega (arith, told_append xs ys)
 
   -- each of these connections is told once
-  told_to_once : (keys : Option (List (List ℕ))) (n : ℕ) (ids : List ℕ) → AscendFrom n ids
+  pub told_to_once : (keys : Option (List (List ℕ))) (n : ℕ) (ids : List ℕ) → AscendFrom n ids
       → times_told c key (told_to keys ids) ≡ once (is_named keys key && has_id c ids)
   told_to_once keys n [] h = grind arith
   told_to_once keys n (x ∷ xs) h =

@@ -5,7 +5,7 @@ use Rattle.serial_model.specs.declared.history.Entry.{Entry}
 use Rattle.serial_model.specs.declared.history.Entry.TheVariants.{Admit, Run, Tick, Take, Close}
 use Rattle.serial_model.specs.History.{IsLegal}
 use Rattle.tracking_laws.specs.Laws.{EntryTellsExactly, ToldExactly}
-use Rattle.tracking_laws.proofs.Told.{told_by_name, told_is_remembered, told_once}
+use Rattle.tracking_laws.proofs.Told.{told_by_name, told_is_asked, told_once}
 use Rattle.tracking_laws.proofs.Flushes.{told_of_all}
 use Rattle.tracking_laws.proofs.Owned.{remembered_is_read, gone_is_forgotten}
 use Rattle.tracking_laws.proofs.Causes.{each_read_is_owed_or_told, leaves_for_cause}
@@ -26,7 +26,7 @@ module _ (l : Limits) where
   entry_tells_exactly entry past legal = record {
     by_name = told_by_name l entry past;
     of_all = told_of_all l entry past;
-    remembered = told_is_remembered l entry past;
+    asked = told_is_asked l entry past;
     once = told_once l entry past;
     sent = sent_is_told l entry past;
     read = remembered_is_read l entry past;

@@ -2,6 +2,7 @@ pub mod Holders
 pub mod Quits
 pub mod Counts
 pub mod Invalidations
+pub mod Prefixes
 pub mod Remembering
 pub mod Told
 pub mod Owned

@@ -7,11 +7,7 @@ use Rattle.std.proofs.lemmas.Bool.{eqb-true, and_parts, both_ways, cases_Bool, f
 use Rattle.resp_value.specs.declared.value.Proto.{Proto}
 use Rattle.resp_value.specs.declared.value.Proto.TheVariants.{Three}
 use Rattle.resp_value.specs.declared.value.Value.{Value}
-use Rattle.command_words.specs.declared.command.Signalled.{Signalled}
-use Rattle.command_words.specs.declared.command.Signalled.TheVariants.{Keys, All}
 use Rattle.command_words.specs.Words.{reading}
-use Rattle.track_table.specs.declared.table.Held.{Held}
-use Rattle.track_table.specs.Table.{dropped}
 use Rattle.redirect.specs.Messages.{push_of}
 use Rattle.track_modes.specs.ModeState as mode_state
 use Rattle.track_modes.specs.ModeState.{ModeState}
@@ -19,14 +15,15 @@ use Rattle.serial_model.specs.declared.history.Limits.{Limits}
 use Rattle.serial_model.specs.declared.history.Entry.{Entry}
 use Rattle.serial_model.specs.declared.history.Entry.TheVariants.{Admit, Run, Tick, Take, Close}
 use Rattle.serial_model.specs.State.{State, is_on, is_live}
-use Rattle.serial_model.specs.Tracking.{Invalidation, drop_group, group, ids_where}
+use Rattle.serial_model.specs.Tracking.{Invalidation, ids_where}
 use Rattle.serial_model.specs.Actions.{Sending, Message, End, Action, tracks, heard, replies}
-use Rattle.serial_model.specs.Actions.{is_passed, rows_then}
+use Rattle.serial_model.specs.Actions.{drops_told, expiry_told, is_passed, later_told, own_told}
+use Rattle.serial_model.specs.Actions.{rows_then}
 use Rattle.serial_model.specs.Actions as actions
 use Rattle.serial_model.specs.Actions.{rows_grown, modes_then, to_one, is_overgrown, action_sends}
 use Rattle.serial_model.specs.Plain.{IsPlainAction, is_three, pushed, pushes}
-use Rattle.serial_model.specs.Plain.{signalled_group, tests_before, tests_then, told_then}
-use Rattle.serial_model.specs.Each.{AllIn, AllRows, AllTo}
+use Rattle.serial_model.specs.Plain.{tests_before, tests_then}
+use Rattle.serial_model.specs.Each.{AllTo}
 use Rattle.serial_model.specs.History.{state, sent_to, protocol, runs_on, has_ended}
 use Rattle.serial_model.specs.History.{is_quit, ran}
 use Rattle.serial_model.specs.History.{runner_in}
@@ -39,16 +36,15 @@ use Rattle.serial_model.proofs.PlainActions as plain_actions
 use Rattle.serial_model.proofs.PlainActions.{states_are_plain, run_plain, tick_plain, first_is}
 use Rattle.serial_model.proofs.PlainActions.{rest_is}
 use Rattle.serial_model.proofs.Sendings.{heard-append}
-use Rattle.serial_model.proofs.Each.{in_filter}
 use Rattle.serial_model.proofs.ServedRows.{none_stops}
 use Rattle.serial_model.proofs.StateSteps.{none_by_tick}
-use Rattle.serial_model.proofs.Tables.{sent_to-append, group_all, told_all, drop_group_all, ids_all}
-use Rattle.serial_model.proofs.Tables.{dropped_all, without_keys_all}
+use Rattle.serial_model.proofs.Tables.{sent_to-append, drop_group_all, dropped_all, ids_all}
+use Rattle.serial_model.proofs.Tables.{signal_group_all, whole_group_all, without_keys_all}
 use Rattle.serial_model.proofs.Trackers.{Tracks, all_track, grown_tracks, made_tracks}
-use Rattle.tracking_laws.specs.Told.{once}
-use Rattle.tracking_laws.specs.Sent.{times_to, messages, while_on, SentIsTold}
+use Rattle.tracking_laws.specs.Told.{once, where_so}
+use Rattle.tracking_laws.specs.Sent.{times_to, messages, SentIsTold}
 use Rattle.serial_model.proofs.Quiet.{Same, same_or_none, tick_none}
-use Rattle.tracking_laws.proofs.Invalidations.{run_told, tick_told}
+use Rattle.tracking_laws.proofs.Invalidations.{tick_told}
 use Rattle.tracking_laws.proofs.Quits.{ends_here, quits_here}
 
 module _ (n c : ℕ) where
@@ -138,14 +134,6 @@ module _ (n c : ℕ) where
       one : (b : Bool) → length {A = ℕ × Sending} (cond b ((n, Message p value) ∷ []) []) ≡ once b
       one b = grind arith
 
-signalled_all : (P : ℕ → Type 0) (sig : Signalled) (passed : ℕ → Bool) (ids : List ℕ)
-    (rows : List Held) → AllIn P ids → AllRows P rows
-    → AllTo P (signalled_group sig passed ids rows)
-signalled_all P (Keys keys) passed ids rows a b =
-    in_filter (λ (i : Invalidation). P i.to) (λ i. not (passed i.to)) (group keys rows)
-    (group_all P keys rows b)
-signalled_all P All passed ids rows a b = told_all P None ids a
-
 -- ---- an action
 
 module _ (l : Limits) (past : List Entry) (c : ℕ) where
@@ -159,10 +147,10 @@ module _ (l : Limits) (past : List Entry) (c : ℕ) where
   p = protocol l c past
 
   off_count : (o : ℕ → Bool) (t : Action) (k : ℕ) → is_on s c ≡ false
-      → length (sent_to n c (action_sends o l t s)) ≡ while_on (runs_on l past c) k
+      → length (sent_to n c (action_sends o l t s)) ≡ where_so (runs_on l past c) k
   off_count o t k off =
       ap length (action_sends_off o l t s n c off)
-      ∙ sym (ap (λ b. while_on b k) (sym (on_is l past c) ∙ off))
+      ∙ sym (ap (λ b. where_so b k) (sym (on_is l past c) ∙ off))
 
   parts : (a b d : List (ℕ × Sending))
       → length (sent_to n c (a ++ b ++ d))
@@ -175,9 +163,9 @@ module _ (l : Limits) (past : List Entry) (c : ℕ) where
   -- to one that is on an action sends its pushes, and the reply
   action_count : (t : Action) → IsPlainAction t → is_on s c ≡ true
       → length (sent_to n c (actions.messages l t s))
-      ≡ cond (tests_before s c) (times_to c (group t.expired s.table)) 0
+      ≡ cond (tests_before s c) (times_to c (expiry_told t s)) 0
       + length (sent_to n c (replies t))
-      + cond (tests_then t s c) (times_to c (told_then l t s)) 0
+      + cond (tests_then t s c) (times_to c (later_told l t s)) 0
   action_count t plain on =
       let h = states_are_plain l past in
       let a = plain_actions.first l t s h plain in
@@ -187,22 +175,23 @@ module _ (l : Limits) (past : List Entry) (c : ℕ) where
       ∙ parts (heard s a) (heard s (replies t)) (heard s b)
       ∙ ap (λ k. k + length (sent_to n c (heard s (replies t))) + length (sent_to n c (heard s b)))
       (ap (λ ss. length (sent_to n c ss)) (first_is l t s h plain)
-      ∙ push_count n c (tests_before s) (group t.expired s.table))
-      ∙ ap (λ k. cond (tests_before s c) (times_to c (group t.expired s.table)) 0 + k
+      ∙ push_count n c (tests_before s) (expiry_told t s))
+      ∙ ap (λ k. cond (tests_before s c) (times_to c (expiry_told t s)) 0 + k
       + length (sent_to n c (heard s b)))
       (ap length (heard_all n c s (replies t) on))
-      ∙ ap (λ k. cond (tests_before s c) (times_to c (group t.expired s.table)) 0
+      ∙ ap (λ k. cond (tests_before s c) (times_to c (expiry_told t s)) 0
       + length (sent_to n c (replies t)) + k)
       (ap (λ ss. length (sent_to n c ss)) (rest_is l t s h plain)
-      ∙ push_count n c (tests_then t s) (told_then l t s))
+      ∙ push_count n c (tests_then t s) (later_told l t s))
 
   first_count : (t : Action) → is_on s c ≡ true
-      → cond (tests_before s c) (times_to c (group t.expired s.table)) 0
-      ≡ messages p (times_to c (group t.expired s.table))
+      → cond (tests_before s c) (times_to c (expiry_told t s)) 0
+      ≡ messages p (times_to c (expiry_told t s))
   first_count t on =
       by_protocol n c (mode_state.is_on (s.modes c).tracking) (is_on s c) p _ on
-      (not_told n c s.modes (group t.expired s.table)
-      (group_all (Tracks s.modes) t.expired s.table (all_track l past).of_keys))
+      (not_told n c s.modes (expiry_told t s)
+      (whole_group_all (Tracks s.modes) t.expired s.table s.prefixes (all_track l past).of_keys
+      (all_track l past).of_prefixes))
 
   module _ (id : ℕ) (words : List (List ℕ)) (moment : ℕ) where
     abbrev t : Action
@@ -210,32 +199,31 @@ module _ (l : Limits) (past : List Entry) (c : ℕ) where
 
     later_none : Same l past c id words moment
         → mode_state.is_on (modes_then t s c).tracking ≡ false
-        → times_to c (told_then l t s) ≡ 0
+        → times_to c (later_told l t s) ≡ 0
     later_none same off =
         let a = all_track l past in
-        to_more n c (signalled_group t.effect.signalled (is_passed t s)
-        (ids_where (tracks s) s.admitted) (rows_then t s))
-        (drop_group (dropped l.table_max (rows_grown t s)))
+        to_more n c (own_told t s) (drops_told l t s)
         ∙ zeros n c _ _
         (not_told n c s.modes _
-        (signalled_all (Tracks s.modes) t.effect.signalled (is_passed t s)
-        (ids_where (tracks s) s.admitted) (rows_then t s)
+        (signal_group_all (Tracks s.modes) t.effect.signalled (is_passed t s)
+        (ids_where (tracks s) s.admitted) (rows_then t s) s.prefixes
         (ids_all (Tracks s.modes) (tracks s) s.admitted
         (λ h some le e. (and_parts _ (is_on s h) e).0))
-        (without_keys_all (Tracks s.modes) t.expired s.table a.of_keys)) (sym same.1 ∙ off))
+        (without_keys_all (Tracks s.modes) t.expired s.table a.of_keys) a.of_prefixes)
+        (sym same.1 ∙ off))
         (not_told n c (modes_then t s) _
         (drop_group_all (Tracks (modes_then t s)) _
         (dropped_all (Tracks (modes_then t s)) l.table_max (rows_grown t s)
         (grown_tracks t s (made_tracks words (runner_in s id words)) a))) off)
 
     later_count : is_on s c ≡ true
-        → cond (tests_then t s c) (times_to c (told_then l t s)) 0
-        ≡ messages p (times_to c (told_then l t s))
+        → cond (tests_then t s c) (times_to c (later_told l t s)) 0
+        ≡ messages p (times_to c (later_told l t s))
     later_count on = elim (same_or_none l past c id words moment) [
       | inl same ↦
           by_protocol n c (mode_state.is_on (modes_then t s c).tracking) (is_on s c)
           (modes_then t s c).proto _ on (later_none same)
-          ∙ ap (λ q. messages q (times_to c (told_then l t s))) same.0
+          ∙ ap (λ q. messages q (times_to c (later_told l t s))) same.0
       | inr none ↦
           ap (λ told. cond (tests_then t s c) (times_to c told) 0) none
           ∙ nothing (tests_then t s c) p
@@ -250,8 +238,8 @@ module _ (l : Limits) (past : List Entry) (c : ℕ) where
         ≡ messages p (times_to c (invalidations l (Run id words moment) past)) + once (id == c)
         + once ((id == c) && is_quit words)
     run_count on =
-        let first = times_to c (group t.expired s.table) in
-        let later = times_to c (told_then l t s) in
+        let first = times_to c (expiry_told t s) in
+        let later = times_to c (later_told l t s) in
         let replied = length (sent_to n c (replies t)) in
         ap (λ ids. length (sent_to n c (actions.messages l t s
         ++ map {B = ℕ × Sending} (λ k. (k, End)) ids)))
@@ -270,8 +258,7 @@ module _ (l : Limits) (past : List Entry) (c : ℕ) where
         (none_stops (reading words))))
         ∙ turned (messages p first) (once (id == c)) (messages p later)
         ∙ ap (λ k. k + once (id == c)) (sum n c p first later
-        ∙ ap (messages p) (sym (to_more n c (group t.expired s.table) (told_then l t s))
-        ∙ sym (ap (times_to c) (run_told l past id words moment)))))
+        ∙ ap (messages p) (sym (to_more n c (expiry_told t s) (later_told l t s)))))
       where
         turned : (a b d : ℕ) → a + b + d ≡ (a + d) + b
         turned a b d = omega arith
@@ -282,12 +269,12 @@ module _ (l : Limits) (past : List Entry) (c : ℕ) where
       ≡ messages p (times_to c (invalidations l (Tick moment) past)) + 0 + 0
   tick_count moment on =
       let t = tick_action moment s in
-      let first = times_to c (group t.expired s.table) in
+      let first = times_to c (expiry_told t s) in
       ap (λ ids. length (sent_to n c (actions.messages l t s ++ map (λ k. (k, End)) ids)))
       (none_by_tick l moment s)
       ∙ ap (λ ss. length (sent_to n c ss)) (append-nil (actions.messages l t s))
       ∙ action_count t (tick_plain moment s (states_are_plain l past)) on
-      ∙ ap (λ k. k + 0 + cond (tests_then t s c) (times_to c (told_then l t s)) 0)
+      ∙ ap (λ k. k + 0 + cond (tests_then t s c) (times_to c (later_told l t s)) 0)
       (first_count t on)
       ∙ ap (λ told. messages p first + 0 + cond (tests_then t s c) (times_to c told) 0)
       (tick_none l past moment)
@@ -302,13 +289,13 @@ module _ (l : Limits) (past : List Entry) (c : ℕ) where
 no_end : (k m : ℕ) (b : Bool) → k ≡ m → k ≡ m + once (b && false)
 no_end k m b e = grind arith
 
-silent : (b d : Bool) (p : Proto) → 0 ≡ while_on b (messages p 0 + 0 + 0) + once (d && false)
+silent : (b d : Bool) (p : Proto) → 0 ≡ where_so b (messages p 0 + 0 + 0) + once (d && false)
 silent b d p = grind arith
 
 close_count : (n c id : ℕ) (live : Bool) (on : Bool) (p : Proto) (mine : Bool)
     → ((id == c) ≡ true → live ≡ mine)
     → length (sent_to n c (cond live ((id, End) ∷ []) []))
-    ≡ while_on on (messages p 0 + 0 + 0) + once (not (not mine) && (id == c))
+    ≡ where_so on (messages p 0 + 0 + 0) + once (not (not mine) && (id == c))
 close_count n c id live on p mine f = grind arith
 
 pub sent_is_told : (l : Limits) (entry : Entry) (past : List Entry) → SentIsTold l entry past
@@ -320,10 +307,10 @@ sent_is_told l (Run id words moment) past c =
     let told = messages (protocol l c past)
     (times_to c (invalidations l (Run id words moment) past))
     + once (id == c) + once ((id == c) && is_quit words) in
-    no_end _ (while_on (runs_on l past c) told) (not (has_ended l c past))
+    no_end _ (where_so (runs_on l past c) told) (not (has_ended l c past))
     (elim (cases_Bool (is_on s c)) [
       | inl on ↦ run_count l past c id words moment on
-          ∙ sym (ap (λ b. while_on b told) (sym (on_is l past c) ∙ on))
+          ∙ sym (ap (λ b. where_so b told) (sym (on_is l past c) ∙ on))
       | inr off ↦ off_count l past c (is_overgrown l t s) t told off
     ])
 sent_is_told l (Tick moment) past c =
@@ -331,10 +318,10 @@ sent_is_told l (Tick moment) past c =
     let t = tick_action moment s in
     let told = messages (protocol l c past)
     (times_to c (invalidations l (Tick moment) past)) + 0 + 0 in
-    no_end _ (while_on (runs_on l past c) told) (not (has_ended l c past))
+    no_end _ (where_so (runs_on l past c) told) (not (has_ended l c past))
     (elim (cases_Bool (is_on s c)) [
       | inl on ↦ tick_count l past c moment on
-          ∙ sym (ap (λ b. while_on b told) (sym (on_is l past c) ∙ on))
+          ∙ sym (ap (λ b. where_so b told) (sym (on_is l past c) ∙ on))
       | inr off ↦ off_count l past c (is_overgrown l t s) t told off
     ])
 sent_is_told l (Take id max) past c =

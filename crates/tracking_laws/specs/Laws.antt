@@ -3,7 +3,7 @@ use Rattle.std.specs.Prelude.{List, [], ◌∷◌}
 use Rattle.serial_model.specs.declared.history.Limits.{Limits}
 use Rattle.serial_model.specs.declared.history.Entry.{Entry}
 use Rattle.serial_model.specs.History.{IsLegal}
-use Rattle.tracking_laws.specs.Told.{ToldByName, ToldOfAll, ToldIsRemembered, ToldOnce}
+use Rattle.tracking_laws.specs.Told.{ToldByName, ToldOfAll, ToldIsAsked, ToldOnce}
 use Rattle.tracking_laws.specs.Causes.{RememberedIsRead, RememberedIsTracked, LeavesForCause}
 use Rattle.tracking_laws.specs.Causes.{EachReadIsOwedOrTold, EachReadIsRemembered}
 use Rattle.tracking_laws.specs.Causes.{GoneIsForgotten}
@@ -23,7 +23,7 @@ OfEachLegal P =
 pub record EntryTellsExactly (l : Limits) (entry : Entry) (past : List Entry) : Type 0 where
   pub by_name : ToldByName l entry past
   pub of_all : ToldOfAll l entry past
-  pub remembered : ToldIsRemembered l entry past
+  pub asked : ToldIsAsked l entry past
   pub once : ToldOnce l entry past
   pub sent : SentIsTold l entry past
   pub read : RememberedIsRead l entry past

@@ -1,29 +1,35 @@
--- How often an entry tells a connection of a key, and whether the key was remembered there (the
--- client-side caching reference, "The invalidation table").
+-- How often an entry tells a connection of a key, and whether the key was remembered there or one
+-- of its prefixes registered (the client-side caching reference, "The invalidation table" and
+-- "Broadcasting mode").
 use Rattle.std.specs.Prelude.{◌≡◌, ◌+◌, ◌<◌, ◌≤◌, ◌==◌, ◌&&◌, ◌||◌, ℕ, List, [], ◌∷◌, Bool}
 use Rattle.std.specs.Prelude.{true, false, not, Option, Some, None, Result, Ok, Err}
-use Rattle.std.specs.Prelude.{if◌then◌else◌}
+use Rattle.std.specs.Prelude.{if◌then◌else◌, nat_eq}
+use Rattle.std.specs.List.{starts_with}
 use Rattle.command_words.specs.declared.command.Command.{Command}
 use Rattle.command_words.specs.declared.command.Signalled.{Signalled}
 use Rattle.command_words.specs.declared.command.Signalled.TheVariants as signalled
 use Rattle.command_words.specs.declared.command.WordFault.{WordFault}
 use Rattle.command_words.specs.Queries.{read}
 use Rattle.track_table.specs.declared.table.Held.{Held}
+use Rattle.prefix_table.specs.declared.table.Registration.{Registration}
 use Rattle.serial_model.specs.declared.history.Limits.{Limits}
 use Rattle.serial_model.specs.declared.history.Entry.{Entry}
 use Rattle.serial_model.specs.declared.history.Entry.TheVariants.{Run, Tick}
 use Rattle.track_modes.specs.ModeState.{remembers_read}
-use Rattle.serial_model.specs.Tracking.{Invalidation}
+use Rattle.serial_model.specs.Tracking.{Invalidation, has_id}
 use Rattle.serial_model.specs.Actions.{is_passed}
 use Rattle.serial_model.specs.History.{expired, signals, served_reading, mode, table, table_then}
 use Rattle.serial_model.specs.History.{run_action, state}
 use Rattle.serial_model.specs.History.{table_grown, invalidations, is_admitted, is_tracking}
-use Rattle.serial_model.specs.Laws.{is_among, remembers, drops_key}
+use Rattle.serial_model.specs.Laws.{is_among, remembers, drops_key, has_prefix_of}
 
 -- ---- counts
 
 abbrev pub once : Bool → ℕ
 once b = if b then 1 else 0
+
+abbrev pub where_so : Bool → ℕ → ℕ
+where_so b n = if b then n else 0
 
 -- the keys name this one; a flush's null names none
 abbrev pub is_named : Option (List (List ℕ)) → List ℕ → Bool
@@ -45,6 +51,16 @@ times_told c key (i ∷ told) =
 abbrev pub times_flushed : ℕ → List Invalidation → ℕ
 times_flushed c [] = 0
 times_flushed c (i ∷ told) = once ((i.to == c) && is_null i.keys) + times_flushed c told
+
+-- of how many registered prefixes that start the key the connection is told
+abbrev pub times_in : List Registration → ℕ → List ℕ → ℕ
+times_in [] c key = 0
+times_in (r ∷ rows) c key =
+    once (starts_with nat_eq key r.prefix && has_id c r.ids) + times_in rows c key
+
+-- how many prefixes of a key the connection has registered
+abbrev pub times_registered : Limits → List Entry → ℕ → List ℕ → ℕ
+times_registered l past c key = times_in (state l past).prefixes c key
 
 -- ---- what is remembered, step by step
 
@@ -106,16 +122,18 @@ reads_key l _ past c key = false
 
 -- ---- the laws of one entry
 
--- An entry tells a connection of a key once at each of its steps where the key leaves the table
--- while the connection is remembered to hold it, and not else: where the key expires, where the
--- command signals it, unless the connection runs that under NOLOOP, and where it is dropped.
+-- An entry tells a connection of a key where the key expires, and where the command signals it,
+-- unless the connection runs that under NOLOOP: once if the connection is remembered to hold it
+-- there, and once for each prefix of the key that it has registered. Where the key is dropped from
+-- the table, it is told once if it is remembered to hold it; and not else.
 abbrev pub ToldByName : Limits → Entry → List Entry → Type 0
 ToldByName l entry past =
     (c : ℕ) (key : List ℕ)
     → times_told c key (invalidations l entry past)
-    ≡ once (expires_key l entry past key && remembers (table l past) c key)
-    + once (signals_by_name l entry past key && not (passes_over l entry past c)
-    && remembers (rows_at_signal l entry past) c key)
+    ≡ where_so (expires_key l entry past key)
+    (once (remembers (table l past) c key) + times_registered l past c key)
+    + where_so (signals_by_name l entry past key && not (passes_over l entry past c))
+    (once (remembers (rows_at_signal l entry past) c key) + times_registered l past c key)
     + once (drops_key l entry past key && remembers (rows_at_drop l entry past) c key)
 
 -- An entry tells a connection of all keys once, where it is a flush and the connection tracks, its
@@ -127,18 +145,22 @@ ToldOfAll l entry past =
     ≡ once (flushes l entry past && (is_admitted past c && is_tracking l past c))
 
 -- A connection is told of a key by name only if it remembered the key, before the entry or by the
--- entry's own read.
-abbrev pub ToldIsRemembered : Limits → Entry → List Entry → Type 0
-ToldIsRemembered l entry past =
+-- entry's own read, or has registered a prefix of it.
+abbrev pub ToldIsAsked : Limits → Entry → List Entry → Type 0
+ToldIsAsked l entry past =
     (c : ℕ) (key : List ℕ)
     → 0 < times_told c key (invalidations l entry past)
-    → (remembers (table l past) c key || reads_key l entry past c key) ≡ true
+    → (remembers (table l past) c key || reads_key l entry past c key
+    || has_prefix_of (state l past).prefixes c key) ≡ true
 
--- It is told of it at most once; or twice, where the key expired, the entry's own read remembered
--- it anew, and it was dropped at once.
+-- It is told of it at most once, or twice, where the key expired, the entry's own read remembered
+-- it anew, and it was dropped at once; and beside that once for each prefix of the key that it has
+-- registered where the key expires, and as often where the command signals it.
 abbrev pub ToldOnce : Limits → Entry → List Entry → Type 0
 ToldOnce l entry past =
     (c : ℕ) (key : List ℕ)
     → times_told c key (invalidations l entry past)
     ≤ 1 + once (expires_key l entry past key
     && (reads_key l entry past c key && drops_key l entry past key))
+    + where_so (expires_key l entry past key) (times_registered l past c key)
+    + where_so (signals_by_name l entry past key) (times_registered l past c key)

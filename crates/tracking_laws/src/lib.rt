@@ -7,24 +7,26 @@ ghost use Rattle.tracking_laws.specs.Causes.{GoneIsForgotten, LeavesForCause, Re
 ghost use Rattle.tracking_laws.specs.Drops.{DropsOldest};
 ghost use Rattle.tracking_laws.specs.Laws.{LegalTellsExactly, OfEachEntry, OfEachLegal};
 ghost use Rattle.tracking_laws.specs.Sent.{SentIsTold};
-ghost use Rattle.tracking_laws.specs.Told.{ToldByName, ToldIsRemembered, ToldOfAll, ToldOnce};
+ghost use Rattle.tracking_laws.specs.Told.{ToldByName, ToldIsAsked, ToldOfAll, ToldOnce};
 
 /// At each entry a connection is told of a key by name exactly where the key leaves the table while
-/// the connection remembers it, but not where its own command under NOLOOP signals the key; of all
-/// keys exactly at a flush, if it tracks, its own under NOLOOP too.
+/// the connection remembers it, and where the key expires or is signalled once for each prefix of
+/// it that the connection has registered, but not where its own command under NOLOOP signals the
+/// key; of all keys exactly at a flush, if it tracks, its own under NOLOOP too.
 pub fn law_told_exactly_where_remembered()
     ensures by_name { OfEachEntry ToldByName }
     ensures of_all { OfEachEntry ToldOfAll }
 {}
 
 /// A connection is told of a key by name only if it remembered it, before the entry or by the
-/// entry's own read.
-pub fn law_told_is_remembered()
-    ensures { OfEachEntry ToldIsRemembered }
+/// entry's own read, or has registered a prefix of it.
+pub fn law_told_is_asked()
+    ensures { OfEachEntry ToldIsAsked }
 {}
 
 /// An entry tells a connection of a key once at most; or twice, where the key expired, was read by
-/// the entry's own command, and was dropped at once.
+/// the entry's own command, and was dropped at once. One that has registered prefixes of the key is
+/// told once more for each where the key expires, and where it is signalled.
 pub fn law_told_once()
     ensures { OfEachEntry ToldOnce }
 {}

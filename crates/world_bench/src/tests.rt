@@ -1,4 +1,5 @@
 //! Tests of schedules: their text, and what a world prints beside a slow reference player.
+mod cuts;
 mod modes;
 mod reference_client;
 mod reference_links;

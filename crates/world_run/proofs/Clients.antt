@@ -394,7 +394,7 @@ module _ (l : Limits) (raw : List ℕ → List ℕ) (at : ℕ) where
   module _ (heard : ℕ → List ℕ) (lines : List Line) (w : WorldState)
       (h : With l heard raw at NoBytes Steady lines w) (below : at < length w.members) where
     one_link : (member_at w.members at).state.setup.mode.shape ≡ Single
-    one_link = (old_part l heard raw at Steady lines w h below).mode.link.shape
+    one_link = (old_part l heard raw at Steady lines w h below).mode.shape
 
     asked_stands : (c : ClientCall) → IsCall (member_at w.members at).state.setup.mode c
         → AsksQuery c

@@ -11,7 +11,7 @@ use Rattle.serial_model.specs.Steps.{Turn, book_step}
 use Rattle.serial_model.specs.Steps as steps
 use Rattle.shared_cache.specs.declared.log.ClientMode.{ClientMode}
 use Rattle.shared_cache.specs.Held.{Setup}
-use Rattle.currency.specs.Links.{IsKeyMode}
+use Rattle.shared_cache.specs.ClientFields.{IsOneLink}
 use Rattle.script_text.specs.declared.line.Line.{Line}
 use Rattle.server_links.specs.declared.fault.WorldFault.TheVariants.{NameTaken, Refused}
 use Rattle.server_links.specs.LinkEvent.{Raw}
@@ -84,7 +84,7 @@ module _ (l : Limits) (heard : ℕ → List ℕ) (raw : List ℕ → List ℕ) (
 -- ---- a client at a link that is new
 
 module _ (l : Limits) (heard : ℕ → List ℕ) (raw : List ℕ → List ℕ) (lines : List Line)
-    (name : List ℕ) (setup : Setup) (served : IsKeyMode setup.mode) (room : 0 < setup.capacity)
+    (name : List ℕ) (setup : Setup) (served : IsOneLink setup.mode) (room : 0 < setup.capacity)
     (old : LinksState) (w : WorldState) (h : WorldStands l heard raw lines w)
     (made : IsMade (data_link name) old w.links)
     (unread : read_on (data_link name) lines ≡ [])
@@ -156,7 +156,7 @@ module _ (l : Limits) (heard : ℕ → List ℕ) (raw : List ℕ → List ℕ) (
 
 module _ (l : Limits) (heard : ℕ → List ℕ) (raw : List ℕ → List ℕ) (lines : List Line)
     (w : WorldState) (h : WorldStands l heard raw lines w) (name : List ℕ) (setup : Setup)
-    (served : IsKeyMode setup.mode) (room : 0 < setup.capacity) where
+    (served : IsOneLink setup.mode) (room : 0 < setup.capacity) where
   -- the link, and the client at it
   made_joins : Comes l heard raw lines
       (and_then (links_step (Raw (data_link name)) w) (join name (length w.links.links) setup))
@@ -197,7 +197,7 @@ module _ (l : Limits) (heard : ℕ → List ℕ) (raw : List ℕ → List ℕ) (
 
 module _ (l : Limits) (heard : ℕ → List ℕ) (raw : List ℕ → List ℕ) (lines : List Line)
     (w : WorldState) (h : WorldStands l heard raw lines w) where
-  made_then : (name : List ℕ) (mode : ClientMode) (capacity : ℕ) → IsKeyMode mode → 0 < capacity
+  made_then : (name : List ℕ) (mode : ClientMode) (capacity : ℕ) → IsOneLink mode → 0 < capacity
       → Comes l heard raw lines
       (and_then (does w w []) (λ w. and_then (links_step (Raw (data_link name)) w)
       (join name (length w.links.links) (setup_by w mode capacity))))

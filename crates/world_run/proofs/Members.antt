@@ -12,10 +12,11 @@ use Rattle.serial_model.specs.History.{runs_of, sent, stream, taken, IsLegal}
 use Rattle.shared_cache.specs.declared.log.ClientMode.{ClientMode}
 use Rattle.shared_cache.specs.declared.log.Wire.{Wire}
 use Rattle.shared_cache.specs.declared.log.Wire.TheVariants.{Main}
+use Rattle.shared_cache.specs.ClientFields.{IsOneLink}
 use Rattle.shared_cache.specs.Held.{commands}
 use Rattle.shared_cache.specs.Laws.{LegalLog, gots}
 use Rattle.shared_cache.specs.Out.{out}
-use Rattle.currency.specs.Links.{Client, HasWire, IsKeyMode, Meet, AreGot, IsCausal}
+use Rattle.currency.specs.Links.{Client, HasWire, Meet, AreGot, IsCausal}
 use Rattle.server_links.specs.LinksState.{LinksState, at_place}
 use Rattle.server_links.specs.OneHistory.{PartServes}
 use Rattle.world_run.specs.WorldState.{MemberState, data_link}
@@ -44,18 +45,18 @@ pub record MemberPart (ls : LinksState) (read : List ℕ) (m : MemberState) : Ty
   pub named : m.link ≡ data_link m.name
   pub below : m.place < length ls.links
   pub placed : (at_place ls.links m.place).name ≡ m.link
-  pub mode : IsKeyMode m.state.setup.mode
+  pub mode : IsOneLink m.state.setup.mode
   pub room : 0 < m.state.setup.capacity
   pub legal : LegalLog m.state.setup m.state.past
   -- what it got are the first values of what its end read
   pub got : IsPrefix (map tree_of (gots Main m.state.past)) (values_of read)
   pub causal : IsCausal ls.limits (client_of m) ls.past m.state.past
 
-pub served_mode : (m : ClientMode) → is_served m ≡ true → IsKeyMode m
+pub served_mode : (m : ClientMode) → is_served m ≡ true → IsOneLink m
 served_mode m e = grind arith
 
 -- what holds of a client's one wire
-on_main : (P : Wire → Type 0) (m : MemberState) → IsKeyMode m.state.setup.mode → P Main
+on_main : (P : Wire → Type 0) (m : MemberState) → IsOneLink m.state.setup.mode → P Main
     → (w : Wire) → HasWire m.state.setup.mode.shape w → P w
 on_main P m served p w has = grind arith
 

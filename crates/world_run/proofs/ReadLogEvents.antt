@@ -192,7 +192,7 @@ module _ (l : Limits) (heard : ℕ → List ℕ) (raw : List ℕ → List ℕ) (
       record {
         linked = refl;
         place = record { unique = h.links.unique; below = p.below; named = p.placed };
-        lone = p.mode.link.shape;
+        lone = p.mode.shape;
         due = k.each at below;
         reading = λ going. ((h.each at below).2 going).reading;
       }

@@ -122,7 +122,7 @@ module _ (l : Limits) (heard : ℕ → List ℕ) (raw : List ℕ → List ℕ) (
           | true ↦ λ ended. one_stays l heard raw at G lines w h below (Getting D todo next fault)
               (λ g. ((λ going. absurd (closed (has_ended s) ended going)), g.1))
           | false ↦ λ going.
-              let one = (old_part l heard raw at G lines w h below).mode.link.shape in
+              let one = (old_part l heard raw at G lines w h below).mode.shape in
               let k = got_gets m.state.setup one m.state.past v going in
               one_turn l heard raw at G lines w h below (call.Got Main v) tt tt []
               (k.taken_is ∙ sym (append-nil _))
@@ -194,7 +194,7 @@ module _ (l : Limits) (heard : ℕ → List ℕ) (raw : List ℕ → List ℕ) (
         → One l raw at (With (Done D)) lines w (turn (call.End Main) (seat_at at w))
     end_reads R lines w h below keeps =
         let m = member_at w.members at in
-        let one = (old_part l heard raw at R lines w h below).mode.link.shape in
+        let one = (old_part l heard raw at R lines w h below).mode.shape in
         let k = end_ends m.state.setup one m.state.past in
         one_turn l heard raw at R lines w h below (call.End Main) tt tt []
         (k.taken_is ∙ sym (append-nil _))

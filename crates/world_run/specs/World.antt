@@ -17,7 +17,6 @@ use Rattle.shared_cache.specs.declared.log.Shape.{Shape}
 use Rattle.shared_cache.specs.declared.log.Shape.TheVariants.{Single, Pair}
 use Rattle.shared_cache.specs.declared.log.ClientCall.TheVariants as call
 use Rattle.shared_cache.specs.Held.{Setup}
-use Rattle.currency.specs.Links.{is_by_key}
 use Rattle.server_links.specs.declared.fault.WorldFault.{WorldFault}
 use Rattle.server_links.specs.declared.fault.WorldFault.TheVariants.{NoName, NameTaken}
 use Rattle.server_links.specs.declared.fault.WorldFault.TheVariants.{NothingThere, Refused}
@@ -81,9 +80,9 @@ abbrev pub is_third : Proto → Bool
 is_third Two = false
 is_third Three = true
 
--- the modes that are served: one link, the third protocol, and keys remembered as they are read
+-- the modes that are served: one link, of the third protocol
 abbrev pub is_served : ClientMode → Bool
-is_served mode = is_single mode.shape && is_third mode.proto && is_by_key mode.caching
+is_served mode = is_single mode.shape && is_third mode.proto
 
 -- the number of the refusal of a mode that is not served yet
 abbrev pub not_served : ℕ

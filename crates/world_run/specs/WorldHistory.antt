@@ -18,11 +18,12 @@ use Rattle.serial_model.specs.declared.history.Entry.{Entry}
 use Rattle.serial_model.specs.declared.history.Entry.TheVariants.{Run}
 use Rattle.serial_model.specs.History.{Sending, keyspace, sent}
 use Rattle.shared_cache.specs.declared.log.Wire.TheVariants.{Main}
+use Rattle.shared_cache.specs.ClientFields.{IsOneLink}
 use Rattle.shared_cache.specs.Notices.{invalidates}
 use Rattle.shared_cache.specs.Held.{held, held_for}
 use Rattle.shared_cache.specs.Laws.{Every, LegalLog, gots}
 use Rattle.shared_cache.specs.Out.{out as written, taken as taken_out}
-use Rattle.currency.specs.Links.{IsKeyMode, Meet, run_of}
+use Rattle.currency.specs.Links.{Meet, run_of}
 use Rattle.currency.specs.Points.{replied, up_to}
 use Rattle.currency.specs.Current.{HasPoint, IsCurrent, point}
 use Rattle.currency.specs.CompleteExactly.{CompleteExactly}
@@ -97,7 +98,7 @@ put_on w link events = put_by (client_of_link link w.members) w link events
 pub record Serviced (w : WorldState) (m : MemberState) : Type 0 where
   pub named : m.link ≡ data_link m.name
   pub link : place_of m.link w.links ≡ Some m.place
-  pub mode : IsKeyMode m.state.setup.mode
+  pub mode : IsOneLink m.state.setup.mode
   pub capacity : 0 < m.state.setup.capacity
   pub legal : LegalLog m.state.setup m.state.past
   pub meet : Meet w.links.limits (client_of m) w.links.past m.state.past
@@ -127,7 +128,8 @@ pub record OneHistory (first : WorldState) (events : List Event) (lines : List L
       Serves w.links.limits (heard first at events) (put_on w link.name events)
       (read_on link.name lines) w.links.past link
   pub unread : (name : List ℕ) → place_of name w.links ≡ None → read_on name lines ≡ []
-  -- each entry tells those that remembered a key, and drops the oldest keys past the limit alone
+  -- each entry tells those that remembered a key or registered a prefix of it, and drops the
+  -- oldest keys past the limit alone
   pub told : ToldExactly w.links.limits w.links.past
   pub clients : AllServiced w
   pub logs : LogsStand first events lines w
@@ -143,7 +145,8 @@ pub record PartHistory (l : Limits) (events : List Event) (lines : List Line)
       PartServes w.links.limits (put_on w link.name events) (read_on link.name lines) w.links.past
       link
   pub unread : (name : List ℕ) → place_of name w.links ≡ None → read_on name lines ≡ []
-  -- each entry tells those that remembered a key, and drops the oldest keys past the limit alone
+  -- each entry tells those that remembered a key or registered a prefix of it, and drops the
+  -- oldest keys past the limit alone
   pub told : ToldExactly w.links.limits w.links.past
   pub clients : AllServiced w
 

@@ -1,7 +1,7 @@
 //! A client of a world, at its end of its link.
 ghost use Rattle.std.specs.Prelude.{◌≡◌, []};
 ghost use Rattle.resp_stream.specs.Stream.{begun};
-ghost use Rattle.currency.specs.Links.{IsKeyMode};
+ghost use Rattle.shared_cache.specs.ClientFields.{IsOneLink};
 
 use resp_stream::ValueReader;
 use resp_value::Octets;
@@ -31,7 +31,7 @@ impl Model for Member {
     ghost use Rattle.resp_value.specs.TreeCoding.{tree_code};
     ghost use Rattle.shared_cache.specs.declared.log.Wire.TheVariants.{Main};
     ghost use Rattle.shared_cache.specs.Laws.{gots};
-    ghost use Rattle.currency.specs.Links.{IsKeyMode};
+    ghost use Rattle.shared_cache.specs.ClientFields.{IsOneLink};
     ghost use Rattle.world_run.specs.WorldState.{MemberState};
 
     ghost Value = { MemberState };
@@ -46,7 +46,7 @@ impl Model for Member {
       reader = m.reader;
     } };
 
-    ghost invariant = { λ m. IsKeyMode m.state.setup.mode
+    ghost invariant = { λ m. IsOneLink m.state.setup.mode
         × (m.got ≡ length (gots Main m.state.past)) };
 }
 
@@ -59,7 +59,7 @@ impl Member {
         place: usize,
         state: ClientState,
     ) -> Member
-        requires mode { IsKeyMode state.setup.mode }
+        requires mode { IsOneLink state.setup.mode }
         requires empty { state.past ≡ [] }
         ensures { result ≡ record {
           name = name;

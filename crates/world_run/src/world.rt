@@ -2,7 +2,6 @@
 ghost use Rattle.std.specs.Prelude.{◌≡◌, ◌+◌, ◌^◌, ◌<◌, ◌≤◌, ℕ, IfOk, false, length, true};
 ghost use Rattle.script_text.specs.declared.event.Event.TheVariants as event;
 ghost use Rattle.script_text.specs.Valid.{IsValid};
-ghost use Rattle.currency.specs.Links.{is_by_key};
 ghost use Rattle.serial_model.specs.Steps.{AreValid};
 ghost use Rattle.server_links.specs.LinkEvent.{Over};
 ghost use Rattle.server_links.specs.LinksState.{AreApart, names};
@@ -238,7 +237,7 @@ impl World {
     {
         let link = data_link(self.alloc, name)?;
         let called = name.copy()?;
-        let state = ClientState::new(self.alloc, copy_mode(mode), capacity, self.log_max)?;
+        let state = ClientState::new(self.alloc, copy_mode(mode)?, capacity, self.log_max)?;
         let place = self.links.count();
         let member = Member::new(self.alloc, called, link, place, state);
         Ok(member)
@@ -408,38 +407,32 @@ impl World {
     }
 }
 
-/// The modes that are served: one link, the third protocol, and keys remembered as they are read.
+/// The modes that are served: one link, of the third protocol.
 fn is_served(mode: &ClientMode) -> bool
     ensures { result ≡ is_served mode.now }
 {
-    match (mode.shape, mode.proto) {
-        (Shape::Single, Proto::Three) => !matches!(mode.caching, Caching::Bcast(_)),
-        _ => false,
-    }
+    matches!((mode.shape, mode.proto), (Shape::Single, Proto::Three))
 }
 
-// It takes no memory, since no prefixes are kept in a mode that is served.
-fn copy_mode(mode: &ClientMode) -> ClientMode
-    requires { is_served mode.now ≡ true }
-    ensures { result ≡ mode.now }
+fn copy_mode(mode: &ClientMode) -> Result<ClientMode, NoMemory>
+    ensures { IfOk result (λ m. m ≡ mode.now) }
 {
-    ClientMode {
+    Ok(ClientMode {
         shape: mode.shape,
         proto: mode.proto,
-        caching: copy_caching(&mode.caching),
+        caching: copy_caching(&mode.caching)?,
         noloop: mode.noloop,
-    }
+    })
 }
 
-fn copy_caching(caching: &Caching) -> Caching
-    requires { is_by_key caching.now ≡ true }
-    ensures { result ≡ caching.now }
+fn copy_caching(caching: &Caching) -> Result<Caching, NoMemory>
+    ensures { IfOk result (λ c. c ≡ caching.now) }
 {
     match caching {
-        Caching::Default => Caching::Default,
-        Caching::OptIn => Caching::OptIn,
-        Caching::OptOut => Caching::OptOut,
-        Caching::Bcast(_) => unreachable!(),
+        Caching::Default => Ok(Caching::Default),
+        Caching::OptIn => Ok(Caching::OptIn),
+        Caching::OptOut => Ok(Caching::OptOut),
+        Caching::Bcast(prefixes) => Ok(Caching::Bcast(prefixes.copy()?)),
     }
 }
 

@@ -4,4 +4,4 @@ use Rattle.currency.proofs.OneLink.{currency}
 pub returns : goal.returns
 returns c =
     currency c.law_change_is_signalled.ensures c.law_before_the_reply.ensures
-    c.law_signals_are_written.ensures
+    c.law_signals_are_written.ensures c.law_registered_is_mode.ensures

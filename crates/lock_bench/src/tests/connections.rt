@@ -40,7 +40,7 @@ const COMMANDS: &str = "\
 1 0 CLIENT TRACKING ON OPTOUT: 28 \\e 1:62
 1 999 take: 29 -ERR\\sOPTIN\\sand\\sOPTOUT\\scan't\\sbe\\sswitched\\s\
     while\\stracking\\sis\\son\\r\\n -
-1 0 CLIENT TRACKING ON BCAST: 30 \\e 1:25
+1 0 CLIENT TRACKING ON REDIRECT 1: 30 \\e 1:25
 1 0 RESET: 31 \\e 1:8
 1 9999 take: 32 -ERR\\sunknown\\ssubcommand\\r\\n+RESET\\r\\n -
 1 0 CLIENT TRACKINGINFO: 33 \\e 1:65
@@ -95,7 +95,7 @@ const COMMANDS_ON_RESP3: &str = "\
 1 0 CLIENT TRACKING ON OPTOUT: 30 \\e 1:62
 1 999 take: 31 -ERR\\sOPTIN\\sand\\sOPTOUT\\scan't\\sbe\\sswitched\\s\
     while\\stracking\\sis\\son\\r\\n -
-1 0 CLIENT TRACKING ON BCAST: 32 \\e 1:25
+1 0 CLIENT TRACKING ON REDIRECT 1: 32 \\e 1:25
 1 0 RESET: 33 \\e 1:8
 1 9999 take: 34 -ERR\\sunknown\\ssubcommand\\r\\n+RESET\\r\\n -
 1 0 CLIENT TRACKINGINFO: 35 \\e 1:65

@@ -86,6 +86,22 @@ fn a_memory_link_takes_what_fits_and_then_fails(rt: HostRuntime) -> Result<(), F
     Ok(())
 }
 
+#[test]
+fn a_memory_link_takes_pieces_and_fails_at_the_write_that_is_named(
+    rt: HostRuntime,
+) -> Result<(), Fail> {
+    let mut link = memory_link(rt.alloc(), 9, "")?;
+    link.take_most(2);
+    link.fail_write(2);
+    assert!(rt; link.write(b"abc") == Wrote::Took(2));
+    assert!(rt; link.write(b"c") == Wrote::Failed);
+    assert!(rt; link.write(b"cd") == Wrote::Took(2));
+    link.fail_write(0);
+    assert!(rt; link.write(b"e") == Wrote::Took(1));
+    assert!(rt; link.bytes() == "abcde".as_bytes());
+    Ok(())
+}
+
 fn accept_steps(alloc: Global) -> Result<Vec<AcceptStep>, Fail> {
     let mut steps = Vec::new(alloc);
     steps.push(AcceptStep::Idle)?;

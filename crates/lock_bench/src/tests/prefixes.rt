@@ -1,5 +1,6 @@
 //! A table against worked examples.
 use prefix_table::PrefixTable;
+use resp_value::{Octets, Words};
 use std::alloc::Global;
 use std::test::Fail;
 
@@ -84,6 +85,40 @@ fn places_go_behind_what_is_there(rt: HostRuntime) -> Result<(), Fail> {
     places.push(8)?;
     table.matching(b"b", &mut places)?;
     assert_eq!(rt; places.as_slice(), [8, 0, 1].as_slice());
+    Ok(())
+}
+
+fn words_of(alloc: Global, text: &str) -> Result<Words, Fail> {
+    let mut words = Words::new(alloc);
+    for word in text.split(' ') {
+        words.push(Octets::from_slice(alloc, word.as_bytes())?)?;
+    }
+    Ok(words)
+}
+
+#[test]
+fn places_of_several_keys_are_in_order_and_each_once(rt: HostRuntime) -> Result<(), Fail> {
+    let table = prefixes(rt.alloc())?;
+    let keys = words_of(rt.alloc(), "foobar b fo b")?;
+    let places = table.matching_any(keys.as_slice())?;
+    assert_eq!(rt; places.as_slice(), [0, 1, 2, 3, 4].as_slice());
+    let none = table.matching_any(&[])?;
+    assert_eq!(rt; none.as_slice().is_empty(), true);
+    Ok(())
+}
+
+#[test]
+fn prefixes_are_registered_together(rt: HostRuntime) -> Result<(), Fail> {
+    let mut table = prefixes(rt.alloc())?;
+    let registered = words_of(rt.alloc(), "b foo foot fool foo")?;
+    table.add_all(5, registered.as_slice())?;
+    let line = line_of(&table, rt.alloc(), "foot")?;
+    assert_eq!(rt;
+        line.as_slice(),
+        b"[ 7][fo 3][foo 2 5 9][foot 5]".as_slice()
+    );
+    let line = line_of(&table, rt.alloc(), "b")?;
+    assert_eq!(rt; line.as_slice(), b"[ 7][b 3 5]".as_slice());
     Ok(())
 }
 

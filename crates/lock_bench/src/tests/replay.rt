@@ -50,6 +50,9 @@ fn rare(dice: &mut Dice) -> &'static str {
         1 | 2 => "CLIENT TRACKING OFF",
         3 => "HELLO 2",
         4..=9 => "HELLO 3",
+        10 => "CLIENT TRACKING ON BCAST PREFIX q PREFIX kz",
+        11 => "CLIENT TRACKING ON BCAST PREFIX m",
+        12 => "CLIENT TRACKING ON BCAST",
         _ => "CLIENT TRACKING ON",
     }
 }

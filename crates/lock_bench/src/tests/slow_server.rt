@@ -1,5 +1,6 @@
-//! What turns post, by tables that are lists: the keys that are remembered in order of age, and the
-//! deadlines beside what is stored. Each look goes through all of a list.
+//! What turns post, by tables that are lists: the keys that are remembered in order of age, the
+//! prefixes that are registered in byte order, and the deadlines beside what is stored. Each look
+//! goes through all of a list.
 use resp_value::{NoMemory, Octets, Words};
 use serial_model::{Entry, Post, Posted};
 use std::alloc::Global;
@@ -25,6 +26,14 @@ struct Peer {
     id: u64,
     is_on_three: bool,
     tracks: bool,
+    is_broadcast: bool,
+}
+
+/// A prefix that a connection registered.
+#[derive(Drop)]
+struct Registration {
+    prefix: Octets,
+    id: u64,
 }
 
 #[derive(Drop)]
@@ -62,6 +71,37 @@ fn put_pushes(peers: &[Peer], row: &Row, sent: &mut Vec<(u64, Sent)>) -> Result<
     Ok(())
 }
 
+fn do_overlap(a: &[u8], b: &[u8]) -> bool {
+    a.starts_with(b) || b.starts_with(a)
+}
+
+// Whether it stands before the prefix of a connection: in byte order, and then by the id.
+fn stands_before(held: &Registration, prefix: &[u8], id: u64) -> bool {
+    match held.prefix.as_slice().cmp(prefix) {
+        Ordering::Less => true,
+        Ordering::Equal => held.id < id,
+        Ordering::Greater => false,
+    }
+}
+
+// How long the push is of those keys that start with the prefix, if there are some.
+fn size_under(prefix: &[u8], keys: &[Octets]) -> Option<u64> {
+    let mut count = 0u64;
+    let mut size = 0u64;
+    for key in keys {
+        if key.as_slice().starts_with(prefix) {
+            count = count.saturating_add(1);
+            let length = key.as_slice().len() as u64;
+            size = size.saturating_add(length).saturating_add(7);
+        }
+    }
+    match count {
+        0 => None,
+        1..=9 => Some(size.saturating_add(PUSH).saturating_sub(7)),
+        _ => Some(size.saturating_add(PUSH).saturating_sub(6)),
+    }
+}
+
 // Whether it comes before the one that is the first so far.
 fn comes_before(stored: &Stored, first: Option<&Stored>) -> bool {
     match first {
@@ -94,6 +134,8 @@ pub struct SlowServer {
     table_max: usize,
     peers: Vec<Peer>,
     rows: Vec<Row>,
+    registered: Vec<Registration>,
+    changed: Vec<Octets>,
     stored: Vec<Stored>,
     sent: Vec<(u64, Sent)>,
 }
@@ -105,6 +147,8 @@ impl SlowServer {
             table_max,
             peers: Vec::new(alloc),
             rows: Vec::new(alloc),
+            registered: Vec::new(alloc),
+            changed: Vec::new(alloc),
             stored: Vec::new(alloc),
             sent: Vec::new(alloc),
         }
@@ -148,13 +192,15 @@ impl SlowServer {
                     id: *id,
                     is_on_three: false,
                     tracks: false,
+                    is_broadcast: false,
                 })?;
                 Ok(())
             }
             Entry::Run { id, words, moment } => {
                 self.expire(*moment)?;
                 self.sent.push((*id, Sent::Reply))?;
-                self.run(*id, words, *moment)
+                self.run(*id, words, *moment)?;
+                self.tell_prefixes()
             }
             Entry::Tick { moment } => self.expire(*moment),
             Entry::Take { .. } => Ok(()),
@@ -192,6 +238,7 @@ impl SlowServer {
                 self.set_tracking(id, is(word, b"ON"));
                 Ok(())
             }
+            [name, _, _, _, prefixes @ ..] if is(name, b"CLIENT") => self.broadcast(id, prefixes),
             _ => Ok(()),
         }
     }
@@ -204,23 +251,83 @@ impl SlowServer {
         }
     }
 
-    fn set_tracking(&mut self, id: u64, tracks: bool) {
+    // Whether the connection tracks in the other way.
+    fn is_other(&self, id: u64, is_broadcast: bool) -> bool {
+        self.peers.iter().any(|peer| peer.id == id
+            && peer.tracks
+            && peer.is_broadcast != is_broadcast)
+    }
+
+    fn put_tracking(&mut self, id: u64, tracks: bool, is_broadcast: bool) {
         for peer in self.peers.iter_mut() {
             if peer.id == id {
                 peer.tracks = tracks;
+                peer.is_broadcast = is_broadcast;
             }
-        }
-        if !tracks {
-            self.let_go(id);
         }
     }
 
-    // The connection holds no key any more.
+    fn set_tracking(&mut self, id: u64, tracks: bool) {
+        if !tracks {
+            self.put_tracking(id, false, false);
+            self.let_go(id);
+        } else if !self.is_other(id, false) {
+            self.put_tracking(id, true, false);
+        }
+    }
+
+    // Whether one of the prefixes overlaps one that the connection registered.
+    fn is_overlapped(&self, id: u64, prefix: &[u8]) -> bool {
+        self.registered.iter().any(|held| held.id == id
+            && do_overlap(held.prefix.as_slice(), prefix))
+    }
+
+    fn register(&mut self, id: u64, prefix: &[u8]) -> Result<(), NoMemory> {
+        let mut place = 0usize;
+        for held in self.registered.iter() {
+            if held.id == id && held.prefix.as_slice() == prefix {
+                return Ok(());
+            }
+            if stands_before(held, prefix, id) {
+                place = place.saturating_add(1);
+            }
+        }
+        let prefix = Octets::from_slice(self.alloc, prefix)?;
+        let place = place.min(self.registered.len());
+        self.registered.insert(place, Registration { prefix, id })?;
+        Ok(())
+    }
+
+    // BCAST with these options: none for the empty prefix, or the word PREFIX before each prefix.
+    fn broadcast(&mut self, id: u64, options: &[Octets]) -> Result<(), NoMemory> {
+        let mut is_refused = self.is_other(id, true);
+        for (place, word) in options.iter().enumerate() {
+            if place % 2 == 1 && self.is_overlapped(id, word.as_slice()) {
+                is_refused = true;
+            }
+        }
+        if is_refused {
+            return Ok(());
+        }
+        self.put_tracking(id, true, true);
+        if options.is_empty() {
+            return self.register(id, b"");
+        }
+        for (place, word) in options.iter().enumerate() {
+            if place % 2 == 1 {
+                self.register(id, word.as_slice())?;
+            }
+        }
+        Ok(())
+    }
+
+    // The connection holds no key any more, and has registered no prefix.
     fn let_go(&mut self, id: u64) {
         for row in self.rows.iter_mut() {
             row.holders.retain(|holder| *holder != id);
         }
         self.rows.retain(|row| !row.holders.is_empty());
+        self.registered.retain(|held| held.id != id);
     }
 
     fn remember(&mut self, id: u64, key: &Octets) -> Result<(), NoMemory> {
@@ -241,7 +348,11 @@ impl SlowServer {
     }
 
     fn read(&mut self, id: u64, keys: &[Octets]) -> Result<(), NoMemory> {
-        if !self.peers.iter().any(|peer| peer.id == id && peer.tracks) {
+        let remembers = self
+            .peers
+            .iter()
+            .any(|peer| peer.id == id && peer.tracks && !peer.is_broadcast);
+        if !remembers {
             return Ok(());
         }
         for key in keys {
@@ -262,6 +373,24 @@ impl SlowServer {
         Ok(())
     }
 
+    // Those who registered prefixes of the keys that changed are told, by one push a prefix.
+    fn tell_prefixes(&mut self) -> Result<(), NoMemory> {
+        for held in self.registered.iter() {
+            let size = size_under(held.prefix.as_slice(), self.changed.as_slice());
+            let is_pushed = self
+                .peers
+                .iter()
+                .any(|peer| peer.id == held.id && peer.is_on_three);
+            if let Some(size) = size {
+                if is_pushed {
+                    self.sent.push((held.id, Sent::Push(size)))?;
+                }
+            }
+        }
+        self.changed.clear();
+        Ok(())
+    }
+
     // The holders of the key are told, and hold it no more.
     fn tell(&mut self, key: &[u8]) -> Result<(), NoMemory> {
         for row in self.rows.iter() {
@@ -270,6 +399,9 @@ impl SlowServer {
             }
         }
         self.rows.retain(|row| row.key.as_slice() != key);
+        if !self.changed.iter().any(|other| other.as_slice() == key) {
+            self.changed.push(Octets::from_slice(self.alloc, key)?)?;
+        }
         Ok(())
     }
 
@@ -322,15 +454,15 @@ impl SlowServer {
         Ok(())
     }
 
-    // The keys that are due leave, the earliest first, and their holders are told.
+    // The keys that are due leave, the earliest first, and those whom they concern are told.
     fn expire(&mut self, moment: u64) -> Result<(), NoMemory> {
         for _ in 0..self.stored.len() {
             let Some(key) = first_due(&self.stored, moment)? else {
-                return Ok(());
+                return self.tell_prefixes();
             };
             self.tell(key.as_slice())?;
             self.remove(key.as_slice());
         }
-        Ok(())
+        self.tell_prefixes()
     }
 }

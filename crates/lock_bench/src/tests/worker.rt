@@ -25,10 +25,25 @@ fn bytes_of(alloc: Global, text: &str) -> Result<Vec<u8>, AllocError> {
     Ok(bytes)
 }
 
+/// A PING of which each byte comes alone, with an idle read behind it.
+fn push_apart(alloc: Global, steps: &mut Vec<LinkStep>) -> Result<(), AllocError> {
+    for byte in b"*1\r\n$4\r\nPING\r\n" {
+        let mut piece = Vec::new(alloc);
+        piece.push(*byte)?;
+        steps.push(LinkStep::Bytes(piece))?;
+        steps.push(LinkStep::Idle)?;
+    }
+    Ok(())
+}
+
 /// The steps of a link, as commas part them: those named, and pieces of bytes.
 fn steps_of(alloc: Global, text: &str) -> Result<Vec<LinkStep>, AllocError> {
     let mut steps = Vec::new(alloc);
     for word in text.split(',') {
+        if word == "apart" {
+            push_apart(alloc, &mut steps)?;
+            continue;
+        }
         steps.push(match word {
             "fail" => LinkStep::Fail,
             "idle" => LinkStep::Idle,
@@ -135,6 +150,50 @@ fn comes_to<R: Wait>(rt: &R, alloc: Global, row: &str) -> Result<bool, Fail> {
 fn a_connection_ends_as_its_link_does(rt: HostRuntime) -> Result<(), Fail> {
     for row in ROWS.lines() {
         assert!(rt; comes_to(&rt, rt.alloc(), row)?, "{row}");
+    }
+    Ok(())
+}
+
+/// The steps of a link that hears PING, and QUIT behind it, as a client sends them; how many bytes
+/// a write to it takes at most, and the number of the write that fails, 0 for none; the end, the
+/// requests and the writes; and what was written.
+const LINKS: &str = " = 99 0 = PeerEnd 0 in 0 = 
+fail = 99 0 = LinkFault 0 in 0 = 
+*1;$4;PING;,fail = 99 0 = LinkFault 1 in 1 = +PONG;
+*1;$4;PING;,*1;$ = 99 0 = PeerEnd 1 in 1 = +PONG;
+apart = 99 0 = PeerEnd 1 in 1 = +PONG;
+*1;$4;PING; = 99 1 = LinkFault 1 in 1 = 
+*1;$4;PING; = 99 2 = PeerEnd 1 in 1 = +PONG;
+*1;$4;PING; = 1 0 = PeerEnd 1 in 7 = +PONG;
+*1;$4;PING; = 1 3 = LinkFault 1 in 3 = +P
+*1;$007 = 99 0 = BadRequest(BadByte { offset: 6 }) 0 in 0 = 
+*1;$4;PING;*1;$4;QUIT;*1;$4;PING; = 99 0 = Quit 2 in 1 = +PONG;+OK;
+*1;$4;PING;*1;$4;QUIT; = 5 3 = LinkFault 2 in 3 = +PONG;+OK";
+
+fn cut_link(alloc: Global, steps: &str, writes: &str) -> Result<CountedLink, AllocError> {
+    let mut link = link_of(alloc, steps, 100)?;
+    let (most, failing) = writes.split_once(' ').unwrap_or(("", ""));
+    link.link
+        .take_most(most.parse::<usize>().unwrap_or(1).max(1));
+    link.link.fail_write(failing.parse::<u64>().unwrap_or(0));
+    Ok(link)
+}
+
+fn ends_so<R: Wait>(rt: &R, alloc: Global, row: &str) -> Result<bool, Fail> {
+    let mut parts = row.split(" = ");
+    let steps = parts.next().unwrap_or("");
+    let mut link = cut_link(alloc, steps, parts.next().unwrap_or(""))?;
+    let clock = FixedClock { ms: 7 };
+    let came = said(rt, alloc, 100, &mut link, &clock, &OpenGate)?;
+    let is_end = came.as_str() == parts.next().unwrap_or("");
+    let written = bytes_of(alloc, parts.next().unwrap_or(""))?;
+    Ok(is_end && link.link.bytes() == written.as_slice())
+}
+
+#[test]
+fn a_link_that_ends_fails_or_is_cut_ends_its_connection(rt: HostRuntime) -> Result<(), Fail> {
+    for row in LINKS.lines() {
+        assert!(rt; ends_so(&rt, rt.alloc(), row)?, "{row}");
     }
     Ok(())
 }

@@ -23,7 +23,8 @@ fn bytes_of(alloc: Global, text: &str) -> Result<Vec<u8>, AllocError> {
 }
 
 /// The steps of a link, as commas part them: waits for so many bytes, a failure, and pieces. `both`
-/// awaits 100 bytes for 10,000,000 reads.
+/// awaits 100 bytes for 10,000,000 reads, `double` is a value that is not served, and `greeting` is
+/// what a server answers to the handshake.
 fn steps_of(alloc: Global, text: &str) -> Result<Vec<LinkStep>, AllocError> {
     let mut steps = Vec::new(alloc);
     for word in text.split(',') {
@@ -33,6 +34,8 @@ fn steps_of(alloc: Global, text: &str) -> Result<Vec<LinkStep>, AllocError> {
                 bytes: 100,
                 reads: 10_000_000,
             },
+            "double" => LinkStep::Bytes(bytes_of(alloc, ",1;")?),
+            "greeting" => LinkStep::Bytes(bytes_of(alloc, GREETING)?),
             _ => match word.parse::<u64>() {
                 Ok(count) => LinkStep::Wait(count),
                 Err(_) => LinkStep::Bytes(bytes_of(alloc, word)?),
@@ -41,6 +44,9 @@ fn steps_of(alloc: Global, text: &str) -> Result<Vec<LinkStep>, AllocError> {
     }
     Ok(steps)
 }
+
+const GREETING: &str = "%7;$6;server;$5;redis;$7;version;$5;7.0.0;$5;proto;:3;$2;id;:1;$4;mode;\
+    $10;standalone;$4;role;$6;master;$7;modules;*0;+OK;";
 
 /// A net where the host `cache:a` gives a link at port 7 with these steps; where they are `none`
 /// the dial fails.
@@ -165,6 +171,12 @@ const ROWS: &str = "\
 --connect cache:a:7 = 1 ask GET foo = 60,%0;+OK;,82,*x = 8 = 1 down;link-ended main 3; \
 = *2;$3;GET;$3;foo;
 --connect cache:a:7 = 1 ask GET foo = 60,$5;hello; = 8 = 1 down;link-ended main 4; = nothing
+--connect cache:a:7 = 1 ask GET foo =  = 8 = 1 down;link-ended main 1; = nothing
+--connect cache:a:7 = 1 ask GET foo = fail = 8 = 1 down;link-ended main 2; = nothing
+--connect cache:a:7 = 1 ask GET foo = 60,double = 8 = 1 down;link-ended main 3; = nothing
+--connect cache:a:7 = 1 ask GET foo = 60,:1; = 8 = 1 down;link-ended main 4; = nothing
+--connect cache:a:7 = 1 ask GET foo = 60,greeting,82,>1;$10;invalidate; = 8 \
+= 1 down;link-ended main 4; = *2;$3;GET;$3;foo;
 --connect cache:a:7 = 1 ask GET foo = none = 6 = net-fault; = none
 --connect cache:7 = 1 ask GET foo = 60,%0;+OK;,82,_;,83 = 6 = net-fault; = none
 --connect cache:a:8 = 1 ask GET foo = 60,%0;+OK;,82,_;,83 = 6 = net-fault; = none

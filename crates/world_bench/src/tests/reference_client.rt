@@ -42,6 +42,9 @@ pub struct Client {
     pub name: Octets,
     alloc: Global,
     tracks: Tracks,
+    /// Of the keys that begin with one of them alone it holds what it reads; where there are none,
+    /// of all.
+    prefixes: Words,
     capacity: u64,
     /// The oldest first.
     pub deeds: Vec<Deed>,
@@ -96,6 +99,10 @@ fn is_fetch_of(deed: &Deed, query: &Query) -> bool {
     }
 }
 
+fn push_word(alloc: Global, word: &[u8], words: &mut Words) -> Result<(), NoMemory> {
+    words.push(Octets::from_slice(alloc, word)?)
+}
+
 fn use_key(key: &[u8], place: usize, held: &mut Vec<Held>) {
     for entry in held.iter_mut() {
         if entry.query.key() == key {
@@ -132,11 +139,18 @@ fn drop_earliest(held: &mut Vec<Held>) {
 }
 
 impl Client {
-    pub fn new(alloc: Global, name: Octets, tracks: Tracks, capacity: u64) -> Client {
+    pub fn new(
+        alloc: Global,
+        name: Octets,
+        tracks: Tracks,
+        prefixes: Words,
+        capacity: u64,
+    ) -> Client {
         Client {
             name,
             alloc,
             tracks,
+            prefixes,
             capacity,
             deeds: Vec::new(alloc),
             heard: Vec::new(alloc),
@@ -266,23 +280,38 @@ impl Client {
     }
 
     fn put_tracking(&self, out: &mut Vec<u8>) -> Result<(), NoMemory> {
-        let head: &[u8] = match (self.tracks.opts, self.tracks.noloop) {
-            (Opts::All, false) => b"*3\r\n",
-            (Opts::All, true) | (_, false) => b"*4\r\n",
-            (_, true) => b"*5\r\n",
-        };
-        let word: &[u8] = match self.tracks.opts {
-            Opts::All => b"",
-            Opts::In => b"$5\r\nOPTIN\r\n",
-            Opts::Out => b"$6\r\nOPTOUT\r\n",
-        };
-        out.extend_from_slice(head)?;
-        out.extend_from_slice(b"$6\r\nCLIENT\r\n$8\r\nTRACKING\r\n$2\r\nON\r\n")?;
-        out.extend_from_slice(word)?;
-        if self.tracks.noloop {
-            out.extend_from_slice(b"$6\r\nNOLOOP\r\n")?;
+        let words = self.tracking_words()?;
+        put_request(&words, out)
+    }
+
+    fn tracking_words(&self) -> Result<Words, NoMemory> {
+        let mut words = Words::new(self.alloc);
+        for word in [b"CLIENT".as_slice(), b"TRACKING", b"ON"] {
+            push_word(self.alloc, word, &mut words)?;
         }
-        Ok(())
+        match self.tracks.opts {
+            Opts::All => {}
+            Opts::In => push_word(self.alloc, b"OPTIN", &mut words)?,
+            Opts::Out => push_word(self.alloc, b"OPTOUT", &mut words)?,
+            Opts::Bcast => push_word(self.alloc, b"BCAST", &mut words)?,
+        }
+        for prefix in self.prefixes.as_slice() {
+            push_word(self.alloc, b"PREFIX", &mut words)?;
+            words.push(prefix.copy()?)?;
+        }
+        if self.tracks.noloop {
+            push_word(self.alloc, b"NOLOOP", &mut words)?;
+        }
+        Ok(words)
+    }
+
+    // It can hold what it reads of the key.
+    fn covers(&self, key: &[u8]) -> bool {
+        let prefixes = self.prefixes.as_slice();
+        let is_named = prefixes
+            .iter()
+            .any(|prefix| key.starts_with(prefix.as_slice()));
+        is_named || prefixes.is_empty()
     }
 
     // What goes before a read: that it is to be remembered, or that it is not.
@@ -320,6 +349,9 @@ impl Client {
         let Some(Deed::Fetch(query)) = self.deeds.get(sent) else {
             return None;
         };
+        if !self.covers(query.key()) {
+            return None;
+        }
         for deed in self.deeds.iter().take(place).skip(sent.saturating_add(1)) {
             if ends(deed, query.key()) || is_fetch_of(deed, query) {
                 return None;

@@ -24,12 +24,20 @@ fn tracks_of(mode: &ClientMode) -> Option<Tracks> {
         (Shape::Single, Proto::Three, Caching::Default) => Opts::All,
         (Shape::Single, Proto::Three, Caching::OptIn) => Opts::In,
         (Shape::Single, Proto::Three, Caching::OptOut) => Opts::Out,
+        (Shape::Single, Proto::Three, Caching::Bcast(_)) => Opts::Bcast,
         _ => return None,
     };
     Some(Tracks {
         opts,
         noloop: mode.noloop,
     })
+}
+
+fn prefixes_of(alloc: Global, mode: &ClientMode) -> Result<Words, NoMemory> {
+    match &mode.caching {
+        Caching::Bcast(prefixes) => prefixes.copy(),
+        _ => Ok(Words::new(alloc)),
+    }
 }
 
 // How far the client has processed what was sent to it.
@@ -315,7 +323,8 @@ impl ReferencePlayer {
         let mut link = name.copy()?;
         link.append(b".data")?;
         let own = link.copy()?;
-        let client = Client::new(self.past.alloc, name.copy()?, tracks, capacity);
+        let prefixes = prefixes_of(self.past.alloc, mode)?;
+        let client = Client::new(self.past.alloc, name.copy()?, tracks, prefixes, capacity);
         let wire = Wire::new(self.past.alloc, self.next_id(), own, Some(client));
         self.link(&link, wire)
     }

@@ -1,6 +1,6 @@
 //! What a list of entries says of the server, for the reference player: each answer by a look at
 //! all of the list. It knows GET, SET, HELLO, PING, QUIT, CLIENT CACHING, and CLIENT TRACKING with
-//! OPTIN or OPTOUT and with NOLOOP.
+//! OPTIN or OPTOUT, or with BCAST and prefixes, and with NOLOOP.
 use resp_value::{NoMemory, Octets, Proto, Words};
 use serial_model::Entry;
 use std::alloc::Global;
@@ -13,6 +13,8 @@ pub enum Opts {
     In,
     /// Of a read that is not behind CLIENT CACHING NO.
     Out,
+    /// Of all that begin with one of its prefixes, whoever reads them.
+    Bcast,
 }
 
 /// How a connection tracks.
@@ -66,6 +68,8 @@ fn tracking_request(options: &[Octets]) -> Tracks {
         Opts::In
     } else if has(options, b"optout") {
         Opts::Out
+    } else if has(options, b"bcast") {
+        Opts::Bcast
     } else {
         Opts::All
     };
@@ -142,86 +146,172 @@ fn proto_of(id: u64, past: &[Entry]) -> Proto {
     Proto::Two
 }
 
-// While a connection tracks by one of the two words it can't be told the other.
-fn switches(tracks: Option<Tracks>, asked: Option<Tracks>) -> bool {
-    match (tracks, asked) {
-        (Some(tracks), Some(asked)) => matches!(
-            (tracks.opts, asked.opts),
-            (Opts::In, Opts::Out) | (Opts::Out, Opts::In)
-        ),
-        _ => false,
+// ---- what the own words of a connection made of it
+
+// The prefixes behind the words CLIENT TRACKING ON; the empty one where there is BCAST alone.
+fn asked_prefixes(alloc: Global, words: &Words) -> Result<Vec<Octets>, NoMemory> {
+    let mut prefixes = Vec::new(alloc);
+    let mut is_next = false;
+    for word in words.as_slice() {
+        if is_next {
+            prefixes.push(word.copy()?)?;
+        }
+        is_next = !is_next && is(word, b"prefix");
     }
+    if prefixes.is_empty() && has(words.as_slice(), b"bcast") {
+        prefixes.push(Octets::from_slice(alloc, b"")?)?;
+    }
+    Ok(prefixes)
 }
 
-// How a connection tracks behind its own words.
-fn tracks_behind(tracks: Option<Tracks>, words: &Words) -> Option<Tracks> {
-    match request_of(words) {
-        Request::Track(asked) if !switches(tracks, asked) => asked,
-        _ => tracks,
-    }
+fn meet(one: &Octets, other: &Octets) -> bool {
+    let (one, other) = (one.as_slice(), other.as_slice());
+    one.starts_with(other) || other.starts_with(one)
 }
 
-fn tracks_in(id: u64, past: &[Entry]) -> Option<Tracks> {
-    let mut tracks = None;
-    for entry in past {
-        if let Entry::Run { id: by, words, .. } = entry {
-            if *by == id {
-                tracks = tracks_behind(tracks, words);
-            }
+// Two of the prefixes asked for overlap, or one of them and one that is registered.
+fn overlap(asked: &[Octets], registered: &[Octets]) -> bool {
+    let mut place = 0usize;
+    for prefix in asked {
+        place = place.saturating_add(1);
+        let is_met = registered.iter().any(|other| meet(prefix, other));
+        if is_met || asked.iter().skip(place).any(|other| meet(prefix, other)) {
+            return true;
         }
     }
-    tracks
+    false
+}
+
+// Tracking that is on and is told so can't be told otherwise.
+fn switch_fault(tracks: Opts, asked: Opts) -> Option<&'static [u8]> {
+    match (tracks, asked) {
+        (Opts::In, Opts::Out) | (Opts::Out, Opts::In) => {
+            Some(b"-ERR OPTIN and OPTOUT can't be switched while tracking is on\r\n")
+        }
+        (Opts::Bcast, Opts::Bcast) => None,
+        (Opts::Bcast, _) | (_, Opts::Bcast) => {
+            Some(b"-ERR BCAST can't be switched while tracking is on\r\n")
+        }
+        _ => None,
+    }
 }
 
 // What refuses CLIENT CACHING, if anything does.
-fn mark_fault(is_yes: bool, tracks: Option<Tracks>) -> Option<&'static [u8]> {
-    let opts = match tracks {
-        Some(tracks) => tracks.opts,
-        None => Opts::All,
-    };
+fn mark_fault(is_yes: bool, opts: Opts) -> Option<&'static [u8]> {
     match (opts, is_yes) {
         (Opts::In, true) | (Opts::Out, false) => None,
         (Opts::In, false) => Some(b"-ERR CLIENT CACHING NO needs OPTOUT\r\n"),
         (Opts::Out, true) => Some(b"-ERR CLIENT CACHING YES needs OPTIN\r\n"),
-        (Opts::All, _) => Some(b"-ERR CLIENT CACHING needs OPTIN or OPTOUT\r\n"),
+        (Opts::All | Opts::Bcast, _) => Some(b"-ERR CLIENT CACHING needs OPTIN or OPTOUT\r\n"),
     }
 }
 
-// Whether the last request of a connection is a CLIENT CACHING that was not refused.
-fn is_marked(id: u64, past: &[Entry]) -> bool {
-    let mut tracks = None;
-    let mut marked = false;
-    for entry in past {
-        if let Entry::Run { id: by, words, .. } = entry {
-            if *by == id {
-                marked = match request_of(words) {
-                    Request::Mark(is_yes) => mark_fault(is_yes, tracks).is_none(),
-                    _ => false,
-                };
-                tracks = tracks_behind(tracks, words);
-            }
+#[derive(Drop)]
+struct Own {
+    alloc: Global,
+    tracks: Option<Tracks>,
+    prefixes: Vec<Octets>,
+    /// Its last words are a CLIENT CACHING that was not refused.
+    is_marked: bool,
+}
+
+impl Own {
+    fn new(alloc: Global) -> Own {
+        Own {
+            alloc,
+            tracks: None,
+            prefixes: Vec::new(alloc),
+            is_marked: false,
         }
     }
-    marked
-}
 
-// Whether a key that a connection reads behind those entries is remembered for it.
-fn remembers(id: u64, past: &[Entry]) -> bool {
-    match tracks_in(id, past) {
-        None => false,
-        Some(tracks) => match tracks.opts {
-            Opts::All => true,
-            Opts::In => is_marked(id, past),
-            Opts::Out => !is_marked(id, past),
-        },
+    fn opts(&self) -> Opts {
+        match self.tracks {
+            Some(tracks) => tracks.opts,
+            None => Opts::All,
+        }
+    }
+
+    fn track_fault(&self, asked: Tracks, words: &Words) -> Result<Option<&'static [u8]>, NoMemory> {
+        if self.tracks.is_some() {
+            if let Some(fault) = switch_fault(self.opts(), asked.opts) {
+                return Ok(Some(fault));
+            }
+        }
+        let prefixes = asked_prefixes(self.alloc, words)?;
+        let is_named = has(words.as_slice(), b"prefix");
+        if is_named && overlap(prefixes.as_slice(), self.prefixes.as_slice()) {
+            return Ok(Some(b"-ERR prefixes must not overlap\r\n"));
+        }
+        Ok(None)
+    }
+
+    // What refuses its next words, if anything does.
+    fn fault(&self, words: &Words) -> Result<Option<&'static [u8]>, NoMemory> {
+        match request_of(words) {
+            Request::Track(Some(asked)) => self.track_fault(asked, words),
+            Request::Mark(is_yes) => Ok(mark_fault(is_yes, self.opts())),
+            _ => Ok(None),
+        }
+    }
+
+    fn forget(&mut self) {
+        self.tracks = None;
+        self.prefixes.clear();
+    }
+
+    fn hear(&mut self, words: &Words) -> Result<(), NoMemory> {
+        let is_refused = self.fault(words)?.is_some();
+        self.is_marked = !is_refused && matches!(request_of(words), Request::Mark(_));
+        match request_of(words) {
+            Request::Track(Some(asked)) if !is_refused => {
+                self.tracks = Some(asked);
+                for prefix in asked_prefixes(self.alloc, words)? {
+                    self.prefixes.push(prefix)?;
+                }
+            }
+            Request::Track(None) | Request::Quit => self.forget(),
+            _ => {}
+        }
+        Ok(())
+    }
+
+    fn hear_all(&mut self, id: u64, past: &[Entry]) -> Result<(), NoMemory> {
+        for entry in past {
+            match entry {
+                Entry::Run { id: by, words, .. } if *by == id => self.hear(words)?,
+                Entry::Close { id: by } if *by == id => self.forget(),
+                _ => {}
+            }
+        }
+        Ok(())
+    }
+
+    // Whether a key that it reads next is remembered for it.
+    fn remembers(&self) -> bool {
+        match self.tracks {
+            None => false,
+            Some(tracks) => match tracks.opts {
+                Opts::All => true,
+                Opts::In => self.is_marked,
+                Opts::Out => !self.is_marked,
+                Opts::Bcast => false,
+            },
+        }
+    }
+
+    fn has_noloop(&self) -> bool {
+        match self.tracks {
+            Some(tracks) => tracks.noloop,
+            None => false,
+        }
     }
 }
 
-fn has_noloop(id: u64, past: &[Entry]) -> bool {
-    match tracks_in(id, past) {
-        Some(tracks) => tracks.noloop,
-        None => false,
-    }
+fn own_in(alloc: Global, id: u64, past: &[Entry]) -> Result<Own, NoMemory> {
+    let mut own = Own::new(alloc);
+    own.hear_all(id, past)?;
+    Ok(own)
 }
 
 /// Whether a connection said QUIT.
@@ -280,17 +370,15 @@ fn put_greeting(proto: Proto, id: u64, out: &mut Vec<u8>) -> Result<(), NoMemory
 // The bytes of the reply to a request of a connection after those entries.
 fn put_reply(id: u64, words: &Words, past: &[Entry], out: &mut Vec<u8>) -> Result<(), NoMemory> {
     let proto = proto_of(id, past);
+    let fault = own_in(*out.allocator(), id, past)?.fault(words)?;
     let text: &[u8] = match request_of(words) {
         Request::Get(key) => match (value_of(key, past), proto) {
             (Some(value), _) => return put_blob(value, out),
             (None, Proto::Two) => b"$-1\r\n",
             (None, Proto::Three) => b"_\r\n",
         },
-        Request::Track(asked) if switches(tracks_in(id, past), asked) => {
-            b"-ERR OPTIN and OPTOUT can't be switched while tracking is on\r\n"
-        }
-        Request::Set(_, _) | Request::Track(_) | Request::Quit => b"+OK\r\n",
-        Request::Mark(is_yes) => mark_fault(is_yes, tracks_in(id, past)).unwrap_or(b"+OK\r\n"),
+        Request::Set(_, _) | Request::Quit => b"+OK\r\n",
+        Request::Track(_) | Request::Mark(_) => fault.unwrap_or(b"+OK\r\n"),
         Request::Ping => b"+PONG\r\n",
         Request::Hello(asked) => return put_greeting(asked.unwrap_or(proto), id, out),
         Request::Wrong(text) => text,
@@ -343,7 +431,7 @@ fn run_rows(
     rows: &mut Vec<Row>,
 ) -> Result<(), NoMemory> {
     match request_of(words) {
-        Request::Get(key) if remembers(by, past) => remember(alloc, by, key, rows),
+        Request::Get(key) if own_in(alloc, by, past)?.remembers() => remember(alloc, by, key, rows),
         Request::Set(key, _) => {
             rows.retain(|row| row.key.as_slice() != key);
             Ok(())
@@ -356,17 +444,17 @@ fn run_rows(
     }
 }
 
-// The first rows are dropped where there are too many; what a connection is told.
+// The first rows are dropped where there are too many; the keys of those that a connection holds.
 fn drop_first(
     table_max: usize,
     to: u64,
     rows: &mut Vec<Row>,
-    told: &mut Vec<u8>,
+    told: &mut Vec<Octets>,
 ) -> Result<(), NoMemory> {
     let over = rows.len().saturating_sub(table_max);
     for row in rows.iter().take(over) {
         if holds(row, to) {
-            put_invalidation(row.key.as_slice(), told)?;
+            told.push(row.key.copy()?)?;
         }
     }
     rows.reverse();
@@ -375,13 +463,23 @@ fn drop_first(
     Ok(())
 }
 
-// What a connection is told of the key that a Run wrote.
-fn tell_written(to: u64, words: &Words, rows: &[Row], told: &mut Vec<u8>) -> Result<(), NoMemory> {
-    if let Request::Set(key, _) = request_of(words) {
-        for row in rows {
-            if row.key.as_slice() == key && holds(row, to) {
-                put_invalidation(key, told)?;
-            }
+// A key that was written is told once to a connection that holds it, and once for each of the
+// prefixes that it begins with.
+fn tell_written(
+    to: u64,
+    own: &Own,
+    key: &[u8],
+    rows: &[Row],
+    told: &mut Vec<Octets>,
+) -> Result<(), NoMemory> {
+    for row in rows {
+        if row.key.as_slice() == key && holds(row, to) {
+            told.push(row.key.copy()?)?;
+        }
+    }
+    for prefix in own.prefixes.iter() {
+        if key.starts_with(prefix.as_slice()) {
+            told.push(Octets::from_slice(own.alloc, key)?)?;
         }
     }
     Ok(())
@@ -417,21 +515,31 @@ impl Listener {
         self.push(past.len().saturating_add(1), bytes)
     }
 
-    // What a Run tells it.
+    // The keys of which a Run tells it.
     fn put_told(
         &mut self,
         by: u64,
         words: &Words,
         past: &[Entry],
-        told: &mut Vec<u8>,
+        told: &mut Vec<Octets>,
     ) -> Result<(), NoMemory> {
-        if by != self.id || !has_noloop(by, past) {
-            tell_written(self.id, words, self.rows.as_slice(), told)?;
+        let own = own_in(self.alloc, self.id, past)?;
+        if let Request::Set(key, _) = request_of(words) {
+            if by != self.id || !own.has_noloop() {
+                tell_written(self.id, &own, key, self.rows.as_slice(), told)?;
+            }
         }
         run_rows(self.alloc, past, by, words, &mut self.rows)?;
         drop_first(self.table_max, self.id, &mut self.rows, told)
     }
 
+    fn hear_key(&mut self, entry: usize, key: &Octets) -> Result<(), NoMemory> {
+        let mut bytes = Vec::new(self.alloc);
+        put_invalidation(key.as_slice(), &mut bytes)?;
+        self.push(entry, bytes)
+    }
+
+    // A message for each key of which a Run tells it.
     fn hear_told(
         &mut self,
         by: u64,
@@ -439,12 +547,14 @@ impl Listener {
         past: &[Entry],
         is_told: bool,
     ) -> Result<(), NoMemory> {
-        let mut bytes = Vec::new(self.alloc);
-        self.put_told(by, words, past, &mut bytes)?;
-        if bytes.is_empty() || !is_told {
-            return Ok(());
+        let mut told = Vec::new(self.alloc);
+        self.put_told(by, words, past, &mut told)?;
+        if is_told {
+            for key in told.iter() {
+                self.hear_key(past.len().saturating_add(1), key)?;
+            }
         }
-        self.push(past.len().saturating_add(1), bytes)
+        Ok(())
     }
 
     // An entry behind those before it; the protocol is the one that it leaves.
@@ -480,8 +590,7 @@ impl Listener {
     }
 }
 
-/// All that was sent to a connection, in order: each reply, then what its entry tells it. A Run
-/// tells a connection of at most one key, since one that writes remembers none.
+/// All that was sent to a connection, in order: each reply, then what its entry tells it.
 pub fn all_sent(
     alloc: Global,
     table_max: usize,

@@ -138,13 +138,26 @@ say w SET k 4;flow;flow;show x
 client x single 3 default 9 noloop;client y single 3 optin 9 noloop;client z single 3 optout 9;\
 flow;ask x GET k;ask y GET k;ask z GET k;flow;do x SET k 1;flow;show x;show y;show z;ask x GET k;\
 ask y GET k;ask z GET k;flow;do y SET k 2;do z SET k 3;flow;flow;show x;show y;show z
+raw a;raw b;say a HELLO 3;say a CLIENT TRACKING ON BCAST PREFIX k PREFIX kk;\
+say a CLIENT TRACKING ON BCAST PREFIX k;say a CLIENT TRACKING ON BCAST;say a CLIENT TRACKING ON;\
+say a CLIENT CACHING YES;say b HELLO 3;say b CLIENT TRACKING ON BCAST PREFIX a;flow;\
+say b SET k 1;say b SET a 1;say a SET z 1;flow;flow;say a CLIENT TRACKING OFF;say b QUIT;flow;\
+say a SET k 2;say a SET a 3;flow;flow
+raw a;raw b;say a CLIENT TRACKING ON BCAST PREFIX k;say b SET k 1;flow;say a HELLO 3;\
+say b SET k 2;say b SET j 1;flow;flow;say a CLIENT TRACKING ON BCAST PREFIX j NOLOOP;say a SET k 3;\
+say a SET j 4;say b SET j 5;flow;flow;cut a;say b SET k 6;flow;flow
+client x single 3 bcast 9;raw w;flow;ask x GET k;flow;ask x GET k;show x;say w SET k 1;flow w;\
+ask x GET k;flow x.data;ask x GET k;show x;flow;ask x GET k;do x SET k 2;show x;flow;show x
+client x single 3 bcast 9 noloop prefix k prefix j;client y single 3 bcast 9 prefix k;raw w;flow;\
+ask x GET k1;ask x GET a;ask y GET k1;flow;show x;show y;do x SET k1 2;say w SET j 1;flow;flow;\
+show x;show y;ask y GET k1;ask x GET a;flow;say w SET k1 3;say w SET k1 4;flow;flow;show y
+client x single 3 bcast 1 prefix \\e;raw w;flow;ask x GET a;out x.data;serve x.data;say w SET a 1;\
+flow w;send x.data;recv x.data;show x;ask x GET a;ask x GET b;flow;show x;ask x GET b
 client x single 3 optin 9;flow;ask x GET k;out x.data 50;serve x.data;cut x.data;flow;ask x GET k;\
 show x
 client x single 3 optin 9;flow;do x CLIENT CACHING YES
 client x single 3 optin 9;flow;do x QUIT
 client x single 3 optin 9;flow;ask x GET k;poll x 3
-client x single 3 bcast 9
-client x single 3 bcast 9 noloop prefix k
 client x pair 3 optin 9
 client x pair 2 default 9
 client x single 3 optout 9;client x single 3 optin 9

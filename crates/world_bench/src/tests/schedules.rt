@@ -18,7 +18,7 @@ use std::process::Abort;
 use std::test::Fail;
 use world_run::World;
 
-const LIMITS: Limits = Limits {
+pub const LIMITS: Limits = Limits {
     table_max: 1_000,
     out_max: 1_000,
     history_max: 1_000,
@@ -52,8 +52,8 @@ fn play_event(
     Ok(number)
 }
 
-// Plays a line, and answers the number of its fault, 0 for none.
-fn play_line(
+/// Plays a line, and answers the number of its fault, 0 for none.
+pub fn play_line(
     alloc: Global,
     world: &mut World,
     line: &[u8],
@@ -413,11 +413,7 @@ const REFUSED: &str = "\
 
 5 client x pair 3 default 1
 
-5 client x pair 2 optin 1
-
-5 client x single 3 bcast 1
-
-5 client x single 3 bcast 1 noloop prefix k";
+5 client x pair 2 optin 1";
 
 #[test]
 fn an_event_that_is_refused_prints_nothing(rt: HostRuntime) -> Result<(), Fail> {

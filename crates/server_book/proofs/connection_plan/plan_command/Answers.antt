@@ -52,8 +52,9 @@ returns-in-ClientCaching c =
 
 pub returns-in-ClientGetRedir : goal.returns-in-ClientGetRedir
 returns-in-ClientGetRedir c =
-    command_planned c.plan_getredir.result (runner c.args.by.id c.args.mode.now) c.args.words.now
-    command.ClientGetRedir (served (Ok c.args.command.now)) c.plan_getredir.ensures
+    command_planned (Ok c.plan_getredir.result) (runner c.args.by.id c.args.mode.now)
+    c.args.words.now command.ClientGetRedir (served (Ok c.args.command.now))
+    (c.plan_getredir.ensures c.args.by.id)
     (ap (λ x. served (Ok x)) c.in-ClientGetRedir.is)
 
 pub returns-in-ClientTrackingInfo : goal.returns-in-ClientTrackingInfo

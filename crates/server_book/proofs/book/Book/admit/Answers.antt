@@ -17,15 +17,15 @@ invariant_of-self-2 c =
     let e = entry.Admit id in
     let grown = c.push.ensures.past ∙ ap (λ x. e ∷ x) c.reserve.ensures.past in
     let agreed = subst (λ (s : ConnectionsState). Agrees l (e ∷ past) i.stores.space i.stores.table
-    s.items) (sym c.in_ok-admit.ensures.ok)
-    (agrees_admit l past i.stores.space i.stores.table cs c.self.invariant.agrees id
-    (ap (λ n. n + 1) c.count.ensures.count)) in
+    i.stores.prefixes s.items) (sym c.in_ok-admit.ensures.ok)
+    (agrees_admit l past i.stores.space i.stores.table i.stores.prefixes cs
+    c.self.invariant.agrees id (ap (λ n. n + 1) c.count.ensures.count)) in
     let room = subst (λ (s : ConnectionsState). HasRoom (i.log.closable + 1) s.items)
     (sym c.in_ok-admit.ensures.ok)
     (room_admit i.log.closable cs c.self.invariant.room) in
     record {
-      agrees = subst (λ p. Agrees l p i.stores.space i.stores.table c.admit.new.self.items)
-          (sym grown) agreed;
+      agrees = subst (λ p. Agrees l p i.stores.space i.stores.table i.stores.prefixes
+          c.admit.new.self.items) (sym grown) agreed;
       most_is = c.push.ensures.most ∙ c.reserve.ensures.most ∙ c.self.invariant.most_is;
       room = subst (λ n. HasRoom n c.admit.new.self.items)
           (sym (c.push.ensures.closable ∙ ap (λ n. n + 1) c.reserve.ensures.closable)) room;

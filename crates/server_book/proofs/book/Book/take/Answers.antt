@@ -22,17 +22,17 @@ invariant_of-self-2 c =
     let e = entry.Take c.args.id c.args.most in
     let grown = c.push.ensures.past ∙ ap (λ p. e ∷ p) c.reserve.ensures.past in
     let agreed = subst (λ (s : ConnectionsState). Agrees i.limits (e ∷ past) i.stores.space
-    i.stores.table s.items) (sym c.advance.ensures)
-    (agrees_take i.limits past i.stores.space i.stores.table cs k c.args.id c.args.most acc.0
-    (takes_some c.args.most _ c.requires.most acc.1)) in
+    i.stores.table i.stores.prefixes s.items) (sym c.advance.ensures)
+    (agrees_take i.limits past i.stores.space i.stores.table i.stores.prefixes cs k c.args.id
+    c.args.most acc.0 (takes_some c.args.most _ c.requires.most acc.1)) in
     record {
-      agrees = subst (λ p. Agrees i.limits p i.stores.space i.stores.table
+      agrees = subst (λ p. Agrees i.limits p i.stores.space i.stores.table i.stores.prefixes
           c.advance.new.self.items) (sym grown) agreed;
       most_is = c.push.ensures.most ∙ c.reserve.ensures.most ∙ c.self.invariant.most_is;
       room = subst (λ n. HasRoom n c.advance.new.self.items)
           (sym (c.push.ensures.closable ∙ c.reserve.ensures.closable))
-          (room_kept i.limits past e i.log.closable i.stores.space i.stores.table cs k
-          i.stores.space i.stores.table c.advance.new.self.items agreed
+          (room_kept i.limits past e i.log.closable i.stores.space i.stores.table i.stores.prefixes
+          cs k i.stores.space i.stores.table i.stores.prefixes c.advance.new.self.items agreed
           (ap (λ (s : ConnectionsState). length s.items) c.advance.ensures
           ∙ length-set cs (c.args.id - 1) _) (take_stands i.limits past c.args.id c.args.most)
           c.self.invariant.room);
@@ -53,8 +53,8 @@ returns-clause-ok c =
     c.next-entry.ensures ∙ ap (λ p. length p + 1) c.reserve.ensures.past in
     let acc = subst (λ (b : BookState). IsAccepted b.limits b.past (Take id most))
     (sym c.self.view_is) c.requires.accepted in
-    let kept = kept_of l past i.stores.space i.stores.table cs k id
-    (gives_there l past i.stores.space i.stores.table cs k id acc.0) in
+    let kept = kept_of l past i.stores.space i.stores.table i.stores.prefixes cs k id
+    (gives_there l past i.stores.space i.stores.table i.stores.prefixes cs k id acc.0) in
     let given : c.in_ok-bytes.bytes ≡ take most (unsent l id past) = c.in_ok-bytes.ensures
     ∙ ap (λ (x : Connection). take most x.queue) kept in
     let grown = c.push.ensures.past ∙ ap (λ p. e ∷ p) c.reserve.ensures.past in

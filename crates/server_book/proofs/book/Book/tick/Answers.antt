@@ -4,18 +4,17 @@ use Rattle.std.proofs.lemmas.Bool.{eqb-false}
 use Rattle.serial_model.specs.declared.history.Entry.TheVariants as entry
 use Rattle.serial_model.specs.declared.history.BookCall.TheVariants.{Tick}
 use Rattle.serial_model.specs.Deadlines.{due_keys}
-use Rattle.track_table.specs.Table.{without_keys}
 use Rattle.serial_model.specs.History.{expired}
 use Rattle.serial_model.specs.Plain.{pushes}
 use Rattle.serial_model.specs.State.{keeps_bytes}
-use Rattle.serial_model.specs.Tracking.{group}
+use Rattle.serial_model.specs.Tracking.{whole_group}
 use Rattle.serial_model.proofs.StateSteps.{tick_stands}
 use Rattle.serial_model.proofs.DueKeys.{due_apart, none_due}
 use Rattle.server_book.specs.BookState.{Agrees, BookState, HasRoom}
 use Rattle.server_book.specs.Connections.{ConnectionsState}
 use Rattle.server_book.specs.Sendings.{is_pushed, with_sendings}
 use Rattle.server_book.proofs.Plans.{due_is}
-use Rattle.server_book.proofs.BookTurns.{is_turn, room_kept}
+use Rattle.server_book.proofs.BookTurns.{agrees_as, is_turn, room_kept}
 use Rattle.server_book.proofs.Ticks.{agrees_tick, length_told, posted_tick, tick_quiet}
 use Rattle.server_book.proofs.Ticks.{effect_tick, none_of, some_of, tick_turned}
 use Rattle.server_book.proofs.book.Book.tick.Goals as goal
@@ -36,6 +35,7 @@ invariant_of-self-2 c =
     let past = i.log.past in
     let space = i.stores.space in
     let keys = i.stores.table in
+    let rs = i.stores.prefixes in
     let cs = i.stores.connections.items in
     let k = c.self.invariant.agrees in
     let m = c.max-moment.result in
@@ -54,26 +54,26 @@ invariant_of-self-2 c =
     let nobody : i.stores.connections.posts ≡ [] =
     ap (λ (b : BookState). b.posts) c.self.view_is ∙ c.requires.none.posts in
     let final = c.in-Ok.ensures.sent
-    ∙ ap (λ ps. with_sendings n (pushes (is_pushed cs) (group gone keys.rows))
+    ∙ ap (λ ps. with_sendings n (pushes (is_pushed cs) (whole_group gone keys.rows rs))
     (record { items = cs; posts = ps })) nobody in
     let grown = c.push.ensures.past ∙ ap (λ x. e ∷ x) c.reserve.ensures.past in
-    let agreed = subst (λ t. Agrees l (e ∷ past) c.send_tick.new.self.space t
-    c.send_tick.new.self.connections.items) (sym c.in-Ok.ensures.table)
-    (subst (λ (s : ConnectionsState). Agrees l (e ∷ past) c.send_tick.new.self.space
-    (record keys { rows = without_keys gone keys.rows }) s.items) (sym final)
-    (agrees_tick l past space keys cs k m n gone due number c.send_tick.new.self.space some
+    let new = c.send_tick.new.self in
+    let agreed = agrees_as l (e ∷ past) new.space _ new.table _ new.prefixes _ new.connections.items
+    c.in-Ok.ensures.table c.in-Ok.ensures.prefixes
+    (ap (λ (s : ConnectionsState). s.items) final)
+    (agrees_tick l past space keys rs cs k m n gone due number new.space some
     (omega (arith, c.max-moment.ensures, c.moment.ensures))
-    (c.in-Ok.ensures.space ∙ c.in_ok-keys.ensures.ok))) in
+    (c.in-Ok.ensures.space ∙ c.in_ok-keys.ensures.ok)) in
     record {
-      agrees = subst (λ x. Agrees l x c.send_tick.new.self.space c.send_tick.new.self.table
-          c.send_tick.new.self.connections.items) (sym grown) agreed;
+      agrees = subst (λ x. Agrees l x new.space new.table new.prefixes new.connections.items)
+          (sym grown) agreed;
       most_is = c.push.ensures.most ∙ c.reserve.ensures.most ∙ c.self.invariant.most_is;
-      room = subst (λ n. HasRoom n c.send_tick.new.self.connections.items)
+      room = subst (λ n. HasRoom n new.connections.items)
           (sym (c.push.ensures.closable ∙ c.reserve.ensures.closable))
-          (room_kept l past e i.log.closable space keys cs k c.send_tick.new.self.space
-          c.send_tick.new.self.table c.send_tick.new.self.connections.items agreed
+          (room_kept l past e i.log.closable space keys rs cs k new.space new.table
+          new.prefixes new.connections.items agreed
           (ap (λ (s : ConnectionsState). length s.items) final
-          ∙ length_told l past space keys cs k m n gone due number)
+          ∙ length_told l past space keys rs cs k m n gone due number)
           (λ id. ap keeps_bytes (tick_stands l past id m))
           c.self.invariant.room);
     }
@@ -85,6 +85,7 @@ returns-clause-ok c =
     let past = i.log.past in
     let space = i.stores.space in
     let keys = i.stores.table in
+    let rs = i.stores.prefixes in
     let cs = i.stores.connections.items in
     let k = c.self.invariant.agrees in
     let m = c.max-moment.result in
@@ -103,7 +104,7 @@ returns-clause-ok c =
     let nobody : i.stores.connections.posts ≡ [] =
     ap (λ (b : BookState). b.posts) c.self.view_is ∙ c.requires.none.posts in
     let final = c.in-Ok.ensures.sent
-    ∙ ap (λ ps. with_sendings n (pushes (is_pushed cs) (group gone keys.rows))
+    ∙ ap (λ ps. with_sendings n (pushes (is_pushed cs) (whole_group gone keys.rows rs))
     (record { items = cs; posts = ps })) nobody in
     let grown = c.push.ensures.past ∙ ap (λ x. e ∷ x) c.reserve.ensures.past in
     is_turn c.args.self.now l past c.push.new.self.past i.stores.connections.posts
@@ -111,7 +112,7 @@ returns-clause-ok c =
     (tick_turned l past c.args.now m n gone due some number
     (c.max-moment.ensures ∙ ap (max c.args.now) c.moment.ensures))
     (ap (λ (s : ConnectionsState). s.posts) final
-    ∙ posted_tick l past space keys cs k m n gone due number)
+    ∙ posted_tick l past space keys rs cs k m n gone due number)
     (ap Some c.tick_effect.ensures
     ∙ effect_tick l past m n c.in_ok-keys.field-0.keys number
     (due_is m space c.in_ok-keys.field-0.keys c.in_ok-keys.ensures.keys

@@ -1,5 +1,6 @@
 use Rattle.std.proofs.Common.{sym, ap, subst, ◌∙◌}
 use Rattle.track_table.specs.Table.{TableState, without_keys}
+use Rattle.serial_model.specs.Tracking.{whole_group}
 use Rattle.server_book.specs.Stores.{IsHeld}
 use Rattle.server_book.proofs.Remembered.{table_left}
 use Rattle.server_book.proofs.Sendings.{on_err}
@@ -10,7 +11,8 @@ pub returns-in_err-aside-clause-back : goal.returns-in_err-aside-clause-back
 returns-in_err-aside-clause-back c =
     let s = c.args.self.now in
     on_err _ _ (told_none c.args.entry c.args.id s.connections c.tell_keys.new.self.connections
-    c.args.expired.now s.table.rows c.requires.id c.requires.none c.in_ok-tell_keys.ensures.told)
+    (whole_group c.args.expired.now s.table.rows s.prefixes) c.requires.id c.requires.none
+    c.in_ok-tell_keys.ensures.told)
 
 pub send_own-requires-clause-held : goal.send_own-requires-clause-held
 send_own-requires-clause-held c =
@@ -29,7 +31,7 @@ pub send_own-requires-clause-id : goal.send_own-requires-clause-id
 send_own-requires-clause-id c =
     let s = c.args.self.now in
     on_told c.args.entry c.args.id s.connections c.tell_keys.new.self.connections
-    c.args.expired.now s.table.rows c.requires.id c.requires.none
+    (whole_group c.args.expired.now s.table.rows s.prefixes) c.requires.id c.requires.none
     c.in_ok-tell_keys.ensures.told
 
 pub returns-in-Err-clause-back : goal.returns-in-Err-clause-back
@@ -37,5 +39,5 @@ returns-in-Err-clause-back c =
     let s = c.args.self.now in
     c.in-Err.ensures.back
     ∙ told_none c.args.entry c.args.id s.connections c.tell_keys.new.self.connections
-    c.args.expired.now s.table.rows c.requires.id c.requires.none
+    (whole_group c.args.expired.now s.table.rows s.prefixes) c.requires.id c.requires.none
     c.in_ok-tell_keys.ensures.told

@@ -1,41 +1,32 @@
-use Rattle.server_book.proofs.Sendings.{before_sendings, on_err}
-use Rattle.server_book.proofs.Groups.{so_far_there, each_at, each_length, each_row}
-use Rattle.server_book.proofs.Groups.{group_told, told_more}
-use Rattle.std.proofs.Common.{sym, ap, ◌∙◌, arith, length, ◌<◌, []}
-use Rattle.std.proofs.lemmas.List.{get_or_read, take_all}
-use Rattle.track_table.specs.declared.table.Held.{Held}
-use Rattle.track_table.specs.Table.{TableState, holders_of}
+use Rattle.std.proofs.Common.{ap, ◌∙◌}
+use Rattle.serial_model.specs.Plain.{pushes}
+use Rattle.serial_model.specs.Tracking.{group, prefix_group}
+use Rattle.server_book.specs.Connections.{ConnectionsState}
+use Rattle.server_book.specs.Sendings.{before_posts, is_told, with_sendings}
+use Rattle.server_book.proofs.Groups.{told_behind}
+use Rattle.server_book.proofs.Sendings.{before_sendings, on_err_then, on_ok_then, pushes_there}
 use Rattle.server_book.proofs.stores.Stores.tell_keys.Goals as goal
 
-pub returns-in_err-tell-clause-back : goal.returns-in_err-tell-clause-back
-returns-in_err-tell-clause-back c =
-    grind (arith, on_err, each_row, before_sendings, so_far_there)
-
-pub loop-place-preserved : goal.loop-place-preserved
-loop-place-preserved c =
+pub returns-clause-told : goal.returns-clause-told
+returns-clause-told c =
     let s = c.args.self.now in
     let keys = c.args.keys.now in
-    let rows = s.table.rows in
-    let k = c.loop-place.place in
-    let key = c.as_slice-in-loop-place.result.now in
-    let lt : k < length keys = omega (arith, c.loop-place-test.true) in
-    let at = get_or_read keys k c.index-keys-place.result lt c.index-keys-place.is [] in
-    let is = c.as_slice-in-loop-place.ensures ∙ at in
-    let row = each_at keys rows k lt in record {
-      table = c.loop-place.invariant.table;
-      space = c.loop-place.invariant.space;
-      told = told_more c.args.entry c.args.but s.connections c.loop-place.self.connections
-          (each_row keys rows) k key c.holders-holders.result.now c.tell.new.self
-          c.loop-place.invariant.told
-          (omega (arith, lt, each_length keys rows))
-          (is ∙ sym (ap (λ (r : Held). r.key) row))
-          (c.holders-holders.ensures.list
-          ∙ ap (λ (t : TableState). holders_of c.as_slice.result.now t.rows)
-          c.loop-place.invariant.table
-          ∙ ap (λ x. holders_of x rows) (c.as_slice.ensures ∙ at)
-          ∙ sym (ap (λ (r : Held). r.holders) row))
-          c.in_ok-tell.ensures.ok;
-    }
+    let mid = c.tell_holders.new.self in
+    on_ok_then c.tell_prefixes.result _ _
+    (λ sent. told_behind c.args.entry c.args.but s.connections mid.connections
+    c.tell_prefixes.new.self.connections (group keys s.table.rows)
+    (prefix_group keys s.prefixes) c.in_ok-tell_holders.ensures.told
+    (sent ∙ ap (λ rs. with_sendings c.args.entry
+    (pushes (is_told c.args.but mid.connections.items) (prefix_group keys rs)) mid.connections)
+    c.tell_holders.ensures.prefixes)) c.tell_prefixes.ensures.told
 
-pub returns-clause-told : goal.returns-clause-told
-returns-clause-told c = grind (arith, each_row, each_length, take_all, group_told)
+pub returns-clause-back : goal.returns-clause-back
+returns-clause-back c =
+    let s = c.args.self.now in
+    let told = group c.args.keys.now s.table.rows in
+    let sent = pushes (is_told c.args.but s.connections.items) told in
+    on_err_then c.tell_prefixes.result _ _
+    (λ back. back
+    ∙ ap (λ (x : ConnectionsState). before_posts x.posts x.items) c.in_ok-tell_holders.ensures.told
+    ∙ before_sendings c.args.entry sent s.connections
+    (pushes_there c.args.but s.connections.items told)) c.tell_prefixes.ensures.back

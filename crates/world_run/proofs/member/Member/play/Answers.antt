@@ -1,9 +1,8 @@
 use Rattle.std.proofs.Common.{◌≡◌, length, ap, sym, ◌∙◌, arith}
 use Rattle.std.proofs.lemmas.Result.{err_from_is_err_and}
 use Rattle.shared_cache.specs.declared.log.Wire.TheVariants.{Main}
-use Rattle.shared_cache.specs.ClientFields.{Client}
+use Rattle.shared_cache.specs.ClientFields.{Client, IsOneLink}
 use Rattle.shared_cache.specs.Laws.{gots}
-use Rattle.currency.specs.Links.{IsKeyMode}
 use Rattle.world_run.specs.Members.{seat}
 use Rattle.world_run.specs.WorldState.{MemberState}
 use Rattle.world_run.specs.MemberTurns.{Turned}
@@ -23,7 +22,7 @@ returns-in_err-reply c =
     let p = err_from_is_err_and c.from_residual.result c.from_residual.ensures.1 in
     rw p.1 (grind (arith, turn_before))
 
-kept : (c : In_ok-reply) → IsKeyMode c.turn.new.state.setup.mode
+kept : (c : In_ok-reply) → IsOneLink c.turn.new.state.setup.mode
     × (c.self.inside.got ≡ length (gots Main c.turn.new.state.past))
 kept c = grind (arith, gots_kept)
 

@@ -3,12 +3,13 @@ use Rattle.serial_model.specs.Plain.{pushes}
 use Rattle.serial_model.specs.Tracking.{drop_group}
 use Rattle.server_book.specs.Sendings.{is_told, with_sendings}
 use Rattle.server_book.proofs.Groups.{each_row}
-use Rattle.server_book.proofs.stores.Stores.tell_keys.Given as goal
+use Rattle.server_book.proofs.stores.Stores.tell_holders.Given as goal
 
 abbrev pub invariant-loop-place : goal.invariant-loop-place
 invariant-loop-place l = record {
   table : l.self.table ≡ l.initial.self.table;
   space : l.self.space ≡ l.initial.self.space;
+  prefixes : l.self.prefixes ≡ l.initial.self.prefixes;
   told : l.self.connections
       ≡ with_sendings l.entry
       (pushes (is_told l.but l.initial.self.connections.items)

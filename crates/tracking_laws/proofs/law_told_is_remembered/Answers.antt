@@ -1,5 +1,0 @@
-use Rattle.tracking_laws.proofs.law_told_is_remembered.Goals as goal
-use Rattle.tracking_laws.proofs.Told.{told_is_remembered}
-
-pub returns : goal.returns
-returns c = told_is_remembered
