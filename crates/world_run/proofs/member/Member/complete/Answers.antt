@@ -14,7 +14,7 @@ returns-in-Some c =
     let less : c.saturating_sub.result ≡ c.in-Some.entry - 1 =
     omega (arith, c.saturating_sub.ensures) in
     subst (λ (m : MemberState). c.saturating_sub.result ≡ complete_at (seat ls m)) c.self.view_is
-    (less ∙ complete_some ls.limits (client_of m) ls.past i.state.past c.self.invariant.0.link.shape
+    (less ∙ complete_some ls.limits (client_of m) ls.past i.state.past c.self.invariant.0.shape
     (sym c.has_ended.ensures ∙ c.if-has_ended.false) i.got c.in-Some.entry c.self.invariant.1
     (sym c.in_ok-entry.ensures ∙ c.in-Some.is))
 
@@ -25,5 +25,5 @@ returns-in-None c =
     let m = seen i in
     subst (λ (m : MemberState). c.entries-in-None.result ≡ complete_at (seat ls m)) c.self.view_is
     (c.entries-in-None.ensures ∙ complete_none ls.limits (client_of m) ls.past i.state.past
-    c.self.invariant.0.link.shape (sym c.has_ended.ensures ∙ c.if-has_ended.false) i.got
+    c.self.invariant.0.shape (sym c.has_ended.ensures ∙ c.if-has_ended.false) i.got
     c.self.invariant.1 (sym c.in_ok-entry.ensures ∙ c.in-None.is))
