@@ -16,7 +16,7 @@ use Rattle.prefix_table.specs.Table.{registered, with_prefixes}
 use Rattle.prefix_table.specs.Order.{AreHeld, AreInOrder, ComesBefore, IsTable}
 use Rattle.prefix_table.specs.Places.{IsPlace}
 use Rattle.prefix_table.specs.Withdrawals.{all_withdrawn, is_registered, withdrawn}
-use Rattle.prefix_table.proofs.Ids.{with_held, without_with}
+use Rattle.id_set.proofs.Members.{with_held, without_with}
 use Rattle.prefix_table.proofs.Registering.{registered_there}
 
 itself : (prefix : List ℕ) → byte_order prefix prefix ≡ Equal

@@ -19,7 +19,8 @@ use Rattle.track_table.specs.Order.{HasNo, AreOrdered, IsTable, IsWhole}
 use Rattle.track_table.proofs.Orders.{table_without_key, table_without_connection, table_remembered}
 use Rattle.track_table.proofs.Releases.{table_released}
 use Rattle.track_table.proofs.Orders.{same_bytes, not_same, apart}
-use Rattle.track_table.proofs.Releases.{itself, without_same}
+use Rattle.track_table.proofs.Releases.{itself}
+use Rattle.id_set.proofs.Members.{without_same}
 
 module _ (key : List ℕ) where
   pub is_in : List Held → Bool

@@ -1,19 +1,19 @@
 -- A connection that holds a key no more: where its row is, and that what was new goes again.
 use Rattle.std.proofs.Common.{◌≡◌, ◌+◌, ◌<◌, ℕ, List, [], ◌∷◌, ◌++◌, true, false, cond, length}
-use Rattle.std.proofs.Common.{get_or, set, remove, refl, ap, sym, ◌∙◌, arith, eq-eqb}
-use Rattle.std.specs.Prelude.{◌==◌, ◌||◌, not, nat_lt}
+use Rattle.std.proofs.Common.{get_or, set, remove, refl, ap, ◌∙◌, arith, eq-eqb}
+use Rattle.std.specs.Prelude.{◌==◌, not}
 use Rattle.std.specs.List.{list_any}
 use Prim.Native.Nat.{zero, suc}
 use Rattle.std.specs.Str.{bytes_eq}
 use Rattle.std.proofs.lemmas.Slice.Eq.{bytes_eq-Decides}
-use Rattle.std.proofs.lemmas.Bool.{or_parts}
 use Rattle.std.proofs.lemmas.Bool.Decides.{nat_tests}
 use Rattle.track_table.specs.declared.table.Held.{Held}
-use Rattle.id_set.specs.Ids.{AscendFrom, with_id, without_id}
+use Rattle.id_set.specs.Ids.{with_id}
 use Rattle.track_table.specs.Table.{holders_of, remembered, with_keys, freed_of, is_held, released}
 use Rattle.track_table.specs.Table.{all_released}
 use Rattle.track_table.specs.Places.{nobody, NoneBefore, key_at}
 use Rattle.track_table.specs.Order.{HasNo, AreOrdered, AreHeld, IsTable}
+use Rattle.id_set.proofs.Members.{with_held, without_with}
 use Rattle.id_set.proofs.Orders.{ascend_without}
 
 -- ---- at the first row with the key
@@ -64,26 +64,6 @@ table_released id key rs h = grind (arith, ordered_released, held_released, nat_
 
 -- ---- a key that the connection did not hold
 
-pub without_same : (id : ℕ) (hs : List ℕ) → list_any (λ h. h == id) hs ≡ false
-    → without_id id hs ≡ hs
-without_same id [] none = refl
-without_same id (h ∷ hs) none =
-    let p = or_parts (h == id) (list_any (λ x. x == id) hs) none in
-    ap (λ b. cond (not b) (h ∷ without_id id hs) (without_id id hs)) p.0
-    ∙ ap (λ l. h ∷ l) (without_same id hs p.1)
-
-without_with : (id : ℕ) (hs : List ℕ) → list_any (λ h. h == id) hs ≡ false
-    → without_id id (with_id id hs) ≡ hs
-without_with id [] none = grind (arith, eq-eqb)
-without_with id (h ∷ hs) none =
-    let p = or_parts (h == id) (list_any (λ x. x == id) hs) none in
-    let rest = without_id id (with_id id hs) in
-    elim (nat_lt h id) as (λ b. without_id id
-    (cond b (h ∷ with_id id hs) (cond (h == id) (h ∷ hs) (id ∷ h ∷ hs))) ≡ h ∷ hs) [
-      | true ↦ ap (λ b. cond (not b) (h ∷ rest) rest) p.0 ∙ ap (λ l. h ∷ l) (without_with id hs p.1)
-      | false ↦ grind (arith, without_same, eq-eqb)
-    ]
-
 pub itself : (key : List ℕ) → bytes_eq key key ≡ true
 itself key = (bytes_eq-Decides key key).1 refl
 
@@ -104,25 +84,6 @@ released_remembered id key (r ∷ rs) held none =
     ] refl none
 
 -- ---- a key that it held
-
-none_above : (id n : ℕ) (hs : List ℕ) → AscendFrom n hs → id < n
-    → list_any (λ h. h == id) hs ≡ false
-none_above id n [] a lt = refl
-none_above id n (h ∷ hs) a lt =
-    grind (arith, none_above id (h + 1) hs a.1 (let above = a.0 in omega arith))
-
-with_held : (id n : ℕ) (hs : List ℕ) → AscendFrom n hs → list_any (λ h. h == id) hs ≡ true
-    → with_id id hs ≡ hs
-with_held id n [] a some = absurd (let no : ⊥ = cc in no)
-with_held id n (h ∷ hs) a some =
-    elim (nat_lt h id) as (λ b. nat_lt h id ≡ b
-    → cond b (h ∷ with_id id hs) (cond (h == id) (h ∷ hs) (id ∷ h ∷ hs)) ≡ h ∷ hs) [
-      | true ↦ λ e.
-          let other : (h == id) ≡ false = grind (arith, nat_tests) in
-          ap (λ l. h ∷ l) (with_held id (h + 1) hs a.1
-          (sym (ap (λ b. b || list_any (λ x. x == id) hs) other) ∙ some))
-      | false ↦ grind (arith, nat_tests, none_above)
-    ] refl
 
 pub remembered_held : (id : ℕ) (key : List ℕ) (rs : List Held) → AreOrdered rs
     → list_any (λ h. h == id) (holders_of key rs) ≡ true → remembered id key rs ≡ rs

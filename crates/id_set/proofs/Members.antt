@@ -7,7 +7,7 @@ use Rattle.std.proofs.lemmas.Bool.{or_parts}
 use Rattle.std.proofs.lemmas.Bool.Decides.{nat_tests}
 use Rattle.id_set.specs.Ids.{AscendFrom, with_id, without_id}
 
-without_same : (id : ℕ) (ids : List ℕ) → list_any (λ x. x == id) ids ≡ false
+pub without_same : (id : ℕ) (ids : List ℕ) → list_any (λ x. x == id) ids ≡ false
     → without_id id ids ≡ ids
 without_same id [] none = refl
 without_same id (x ∷ xs) none =
