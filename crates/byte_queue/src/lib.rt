@@ -1,13 +1,14 @@
 //! A queue of bytes: they are added at the end and leave from the front.
 #![tactic(auto)]
 
-ghost use Rattle.std.specs.Prelude.{◌≡◌, ◌++◌, [], OnOk, OnErr, IfOk, length, take, drop};
+ghost use Rattle.std.specs.Prelude.{◌≡◌, ◌≤◌, ◌+◌, ◌++◌, [], OnOk, OnErr, IfOk, length, take, drop};
 ghost use Rattle.resp_value.specs.Spelling.{spelling};
 ghost use Rattle.resp_value.specs.ValueTree.{tree_of};
 
 use resp_value::{NoMemory, Octets, Proto, Value, put_value};
 use std::alloc::Global;
 use std::marker::Model;
+use std::mem;
 
 /// A list of bytes. Its front moves without a copy, and the room of what left is used again.
 #[derive(Drop)]
@@ -98,6 +99,40 @@ impl ByteQueue {
     {
         let count = most.min(self.len());
         Octets::from_slice(*self.bytes.allocator(), &self.as_slice()[..count])
+    }
+
+    /// Takes `count` bytes out, and drops the `first` ones before them. They are moved within the
+    /// buffer, which goes with them; what stands behind them is copied.
+    pub fn cut(&mut self, first: usize, count: usize) -> Result<Octets, NoMemory>
+        requires { first + count ≤ length self.old }
+        ensures ok { OnOk result (self.new ≡ drop (first + count) self.old) }
+        ensures cut { IfOk result (λ o. o ≡ take count (drop first self.old)) }
+        ensures err { OnErr result (self.new ≡ self.old) }
+    {
+        let (_, behind) = self.as_slice().split_at(first + count);
+        let behind = Vec::from_slice(*self.bytes.allocator(), behind)?;
+        let behind = ByteQueue {
+            bytes: behind,
+            start: 0,
+        };
+        let mut taken = mem::replace(self, behind);
+        taken.advance(first);
+        taken.keep(count);
+        Ok(taken.into_octets())
+    }
+
+    /// All bytes, in their buffer.
+    fn into_octets(self) -> Octets
+        ensures { result ≡ self }
+    {
+        let ByteQueue { bytes, start } = self;
+        let mut bytes = bytes;
+        let kept = bytes.len() - start;
+        // Of a few bytes before them this is one move of all.
+        bytes.rotate_left(start);
+        bytes.truncate(kept);
+        bytes.shrink_to_fit();
+        Octets::from_vec(bytes)
     }
 
     /// Drops the first bytes, at most so many. It takes no memory.

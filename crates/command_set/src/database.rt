@@ -7,13 +7,12 @@ ghost use Rattle.command_set.specs.Runs.{AreDue, IsTurn, taken_back};
 
 use super::due;
 use super::prior::Prior;
-use super::run_due::{expire, one_written, run_flush, run_keys};
+use super::run_due::{expire, own_keys, run_flush, run_keys};
 use super::waiting::{Parts, Waiting, push_waiting, settle};
 use command_words::{Command, Done, Written, keys_written};
 use resp_value::{NoMemory, Words};
 use std::alloc::Global;
 use std::marker::Model;
-use std::slice;
 
 /// All keys with what they hold and the deadlines in order; contracts see a finite map. A run that
 /// was taken back waits in it until memory is there to put its keys back.
@@ -112,8 +111,7 @@ impl Database {
         ensures undo { IfOk result (λ turned. taken_back turned.undo self.new ≡ self.old) }
     {
         settle(self.alloc, &mut self.parts)?;
-        if let Some(key) = one_written(command) {
-            let keys = slice::from_ref(key);
+        if let Some(keys) = own_keys(command) {
             return run_keys(self.alloc, &mut self.parts, command, moment, keys);
         }
         match keys_written(self.alloc, command)? {

@@ -1,5 +1,5 @@
 //! A run of a command together with the keys that are due.
-ghost use Rattle.std.specs.Prelude.{◌≡◌, [], ◌∷◌, true, IfOk, IfSome, OnOk, OnErr};
+ghost use Rattle.std.specs.Prelude.{◌≡◌, [], true, IfOk, IfSome, OnOk, OnErr};
 ghost use Rattle.command_words.specs.declared.written.Written.TheVariants.{All, Keys};
 ghost use Rattle.command_words.specs.Effects.{effect, has_row};
 ghost use Rattle.command_words.specs.Expiry.{without_due};
@@ -18,7 +18,7 @@ use super::waiting::{Parts, push_waiting, take_place};
 use command_words::Command;
 use resp_value::{NoMemory, Octets, Words};
 use std::alloc::Global;
-use std::mem;
+use std::{mem, slice};
 
 /// The keys that are due go, and what they held is kept.
 pub(crate) fn expire(alloc: Global, parts: &mut Parts, moment: u64) -> Result<Expired, NoMemory>
@@ -51,20 +51,22 @@ pub(crate) fn expire(alloc: Global, parts: &mut Parts, moment: u64) -> Result<Ex
     Ok(Expired { keys, undo })
 }
 
-/// The key that the command can change, where that is one alone.
-pub(crate) fn one_written(command: &Command) -> Option<&Octets>
-    ensures { IfSome result (λ key. written command.now ≡ Keys (key.now ∷ [])) }
+/// The keys that the command can change, where they are one alone or its own list.
+pub(crate) fn own_keys(command: &Command) -> Option<&[Octets]>
+    ensures { IfSome result (λ keys. written command.now ≡ Keys keys.now) }
 {
-    match command {
-        Command::Set(key, _, _, _) | Command::SetNx(key, _) | Command::Append(key, _) => Some(key),
-        Command::GetDel(key) | Command::Incr(key) | Command::Decr(key) => Some(key),
-        Command::IncrBy(key, _) | Command::DecrBy(key, _) => Some(key),
-        Command::HSet(key, _) | Command::HDel(key, _) => Some(key),
-        Command::HIncrBy(key, _, _) | Command::Persist(key) => Some(key),
-        Command::Expire(key, _) | Command::PExpire(key, _) => Some(key),
-        Command::ExpireAt(key, _) | Command::PExpireAt(key, _) => Some(key),
-        _ => None,
-    }
+    let key = match command {
+        Command::Set(key, _, _, _) | Command::SetNx(key, _) | Command::Append(key, _) => key,
+        Command::GetDel(key) | Command::Incr(key) | Command::Decr(key) => key,
+        Command::IncrBy(key, _) | Command::DecrBy(key, _) => key,
+        Command::HSet(key, _) | Command::HDel(key, _) => key,
+        Command::HIncrBy(key, _, _) | Command::Persist(key) => key,
+        Command::Expire(key, _) | Command::PExpire(key, _) => key,
+        Command::ExpireAt(key, _) | Command::PExpireAt(key, _) => key,
+        Command::Del(keys) => return Some(keys.as_slice()),
+        _ => return None,
+    };
+    Some(slice::from_ref(key))
 }
 
 /// A command that writes no key, where none is due, keeps nothing of its run.

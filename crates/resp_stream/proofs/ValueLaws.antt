@@ -23,7 +23,7 @@ use Rattle.resp_stream.proofs.Compose.{IsChoice, IsMove, choice_if, move_if}
 use Rattle.resp_stream.proofs.Readers.{reader_only, reader_feed, reader_ending, reader_line}
 use Rattle.resp_stream.proofs.Readers.{reader_length, reader_counted, reader_many}
 
-blob_ok : IsRule blob_rule
+pub blob_ok : IsRule blob_rule
 blob_ok = record { limit = lit< tt; room = lit≤ tt; least = lit≤ tt }
 
 verbatim_ok : IsRule verbatim_rule

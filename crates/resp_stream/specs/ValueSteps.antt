@@ -1,7 +1,7 @@
 -- How far a value was read, with a stack of open aggregates.
-use Rattle.std.specs.Prelude.{◌≡◌, ◌≤◌, ◌<◌, ℕ, suc, List, [], ◌∷◌, ◌++◌, length, take, drop}
+use Rattle.std.specs.Prelude.{◌≡◌, ◌≤◌, ◌<◌, ◌+◌, ℕ, suc, List, [], ◌∷◌, ◌++◌, length, take, drop}
 use Rattle.std.specs.Prelude.{reverse, false, Option, Some, None, Result, Ok, Err}
-use Rattle.resp_value.specs.Tree.{Tree}
+use Rattle.resp_value.specs.Tree.{Tree, blob}
 use Rattle.resp_value.specs.ValueTree.{tree_of}
 use Rattle.resp_value.specs.declared.value.Value.{Value}
 use Rattle.resp_value.specs.declared.octets.NoMemory.{NoMemory}
@@ -101,3 +101,9 @@ OnMore (Ok reading.More) p = p
 OnMore (Ok (reading.Whole v taken)) p = Unit {0}
 OnMore (Ok (reading.Faulty g at)) p = Unit {0}
 OnMore (Err e) p = Unit {0}
+
+-- The text begins with a blob of `count` bytes, the first of which is at this place.
+pub record IsBlobAt (text : List ℕ) (first count : ℕ) : Type 0 where
+  pub within : first + count + 2 ≤ length text
+  pub is : value_at text ≡ Whole (blob (take count (drop first text)))
+      (drop (first + count + 2) text)

@@ -1,12 +1,12 @@
 //! What a reader was fed and has not passed.
-ghost use Rattle.std.specs.Prelude.{◌≡◌, ◌≤◌, [], true, drop, is_some, None, Some};
-ghost use Rattle.std.specs.Prelude.{IsOk, OnOk, OnErr};
+ghost use Rattle.std.specs.Prelude.{◌≡◌, ◌≤◌, ◌+◌, [], true, length, take, drop, is_some, None};
+ghost use Rattle.std.specs.Prelude.{Some, IsOk, OnOk, OnErr, IfOk};
 ghost use Rattle.resp_stream.specs.Stream.{fed, offset_by, stream_fault};
 ghost use Rattle.resp_stream.specs.ReaderStates.{stream_of};
 
 use super::fault::{Fault, StreamFault, stream_fault};
 use byte_queue::ByteQueue;
-use resp_value::NoMemory;
+use resp_value::{NoMemory, Octets};
 use std::alloc::Global;
 
 /// The bytes that were fed and not passed, with the offset of the first of them and the fault that
@@ -66,6 +66,27 @@ impl Input {
     {
         self.before = self.before.saturating_add(count as u64);
         self.rest.advance(count);
+    }
+
+    /// Cuts a blob out, by its place, and passes it with its end. Its copies share it, as far as
+    /// there is memory for the count of its owners.
+    pub(crate) fn cut(&mut self, first: usize, count: usize) -> Result<Octets, NoMemory>
+        requires { first + count + 2 ≤ length self.old.rest }
+        ensures before { OnOk result
+            (self.new.before ≡ offset_by self.old.before (first + count + 2)) }
+        ensures rest { OnOk result (self.new.rest ≡ drop (first + count + 2) self.old.rest) }
+        ensures broken { self.new.broken ≡ self.old.broken }
+        ensures cut { IfOk result (λ o. o ≡ take count (drop first self.old.rest)) }
+        ensures err { OnErr result (self.new ≡ self.old) }
+    {
+        // A list's length is bounded where it is read.
+        let _held = self.rest.len();
+        let mut blob = self.rest.cut(first, count)?;
+        self.before = self.before.saturating_add((first + count) as u64);
+        self.pass(2);
+        match blob.append(&[]) {
+            Ok(()) | Err(_) => Ok(blob),
+        }
     }
 
     /// Breaks the stream by a fault at the byte that comes after so many.

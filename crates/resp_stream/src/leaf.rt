@@ -17,7 +17,7 @@ use std::alloc::Global;
 
 const LINE_LIMIT: usize = 65536;
 
-const BLOB: LengthRule = LengthRule {
+pub(crate) const BLOB: LengthRule = LengthRule {
     streamed: true,
     null: true,
     least: 0,

@@ -4,6 +4,7 @@
 mod fault;
 mod input;
 mod leaf;
+mod long_blob;
 mod request;
 mod request_reader;
 mod stack;

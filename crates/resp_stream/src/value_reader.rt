@@ -1,14 +1,17 @@
 //! The values of a stream.
-ghost use Rattle.std.specs.Prelude.{◌≡◌, true, IsOk, OnOk, OnErr};
+ghost use Rattle.std.specs.Prelude.{◌≡◌, true, false, IsOk, OnOk, OnErr};
 ghost use Rattle.resp_stream.specs.Stream.{begun, fed};
 ghost use Rattle.resp_stream.specs.Readers.{ValueGives, NotMemory, IfFault};
+ghost use Rattle.resp_stream.specs.ValueSteps.{IsBlobAt};
 
 use super::fault::StreamFault;
 use super::input::Input;
+use super::long_blob::{BlobPlace, long_blob};
 use super::stack::{ValueProgress, ValueReading, read_value};
 use resp_value::{NoMemory, Value};
 use std::alloc::Global;
 use std::marker::Model;
+use std::mem;
 
 /// Reads the values of a stream, however its bytes are cut, in either protocol's spelling.
 ///
@@ -19,6 +22,8 @@ pub struct ValueReader {
     alloc: Global,
     input: Input,
     progress: ValueProgress,
+    /// The next value was begun and not whole.
+    waits: bool,
 }
 
 impl Model for ValueReader {
@@ -48,6 +53,7 @@ impl ValueReader {
                 seen: 0,
                 stack: Vec::new(alloc),
             },
+            waits: false,
         }
     }
 
@@ -68,8 +74,16 @@ impl ValueReader {
         if let Some(fault) = self.input.fault() {
             return Err(fault);
         }
+        if mem::replace(&mut self.waits, false)
+            && let Some(place) = long_blob(self.input.bytes())
+        {
+            return self.cut(place);
+        }
         match read_value(self.alloc, self.input.bytes(), &mut self.progress) {
-            Ok(ValueReading::More) => Ok(None),
+            Ok(ValueReading::More) => {
+                self.waits = true;
+                Ok(None)
+            }
             Ok(ValueReading::Whole { value, taken }) => {
                 self.input.pass(taken);
                 self.progress.reset();
@@ -84,5 +98,18 @@ impl ValueReader {
                 Err(self.input.fail(fault, at))
             }
         }
+    }
+
+    /// Answers the blob at this place, in the memory that it was fed into.
+    fn cut(&mut self, place: BlobPlace) -> Result<Option<Value>, StreamFault>
+        requires place { IsBlobAt self.old.rest place.first place.count }
+        requires open { self.old.failed ≡ false }
+        ensures { ValueGives self.old self.new result }
+    {
+        let Ok(blob) = self.input.cut(place.first, place.count) else {
+            return Err(StreamFault::NoMemory);
+        };
+        self.progress.reset();
+        Ok(Some(Value::Blob(blob)))
     }
 }

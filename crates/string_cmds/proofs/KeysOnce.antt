@@ -1,14 +1,14 @@
 -- The keys in order of first occurrence, by way of a hash whose fields are the keys met so far.
 use Rattle.std.proofs.Common.{◌≡◌, ℕ, Bool, true, false, List, [], ◌∷◌, ◌++◌}
 use Rattle.std.proofs.Common.{refl, ap, sym, ◌∙◌, not, append_assoc, ◌-◌, ◌≤◌, length, get_or, take}
-use Rattle.std.proofs.Common.{drop, map, arith}
+use Rattle.std.proofs.Common.{drop, map, subst, arith}
 use Rattle.std.proofs.lemmas.List.{take_rest}
 use Rattle.std.specs.Prelude.{◌&&◌, ◌||◌, if◌then◌else◌}
-use Rattle.std.specs.List.{filter}
+use Rattle.std.specs.List.{filter, list_any}
 use Rattle.std.specs.Str.{bytes_eq}
 use Rattle.resp_value.specs.Tree.{in_turn}
 use Rattle.command_words.specs.Hashes.{Pairs, field_set}
-use Rattle.command_words.specs.KeyLists.{each_once}
+use Rattle.command_words.specs.KeyLists.{each_once, with_key}
 use Rattle.command_rows.proofs.KeysMet.{is_fresh, met-field_set, filter-filter}
 
 pub all_fresh : (ks : List (List ℕ)) → filter (is_fresh []) ks ≡ ks
@@ -82,3 +82,50 @@ module _ (key v : List ℕ) (met after : Pairs) (keys left all : List (List ℕ)
   more_again stale =
       (λ i. keys ++ filter (is_fresh (set i)) (each_once others_left))
       ∙ (met_again met key v others_left stale keys ∙ peeled_off)
+
+-- ---- by a look at the keys met so far
+
+-- they are the fields of a hash
+abbrev pub fields : List (List ℕ) → Pairs
+fields keys = map (λ k. (k, [])) keys
+
+among : (key : List ℕ) (keys : List (List ℕ))
+    → is_fresh (fields keys) key ≡ not (list_any (bytes_eq key) keys)
+among key [] = refl
+among key (k ∷ keys) = grind (arith, among key keys)
+
+set_new : (key : List ℕ) (keys : List (List ℕ)) → list_any (bytes_eq key) keys ≡ false
+    → field_set key [] (fields keys) ≡ fields (keys ++ key ∷ [])
+set_new key [] e = refl
+set_new key (k ∷ keys) e = grind (arith, set_new key keys)
+
+set_again : (key : List ℕ) (keys : List (List ℕ)) → list_any (bytes_eq key) keys ≡ true
+    → field_set key [] (fields keys) ≡ fields keys
+set_again key [] e = absurd cc
+set_again key (k ∷ keys) e = grind (arith, set_again key keys)
+
+module _ (key : List ℕ) (keys left all : List (List ℕ)) (some : 2 ≤ length left)
+    (first : key ≡ get_or left 0 key)
+    (so_far : keys ++ filter (is_fresh (fields keys)) (each_once (map (λ p. p.0) (in_turn left)))
+    ≡ all) where
+  abbrev goes_on : List (List ℕ) → Type 0
+  goes_on met = met ++ filter (is_fresh (fields met))
+      (each_once (map (λ p. p.0) (in_turn (take (length left - 2) (drop 2 left))))) ≡ all
+
+  abbrev after : List (List ℕ) → Pairs → Type 0
+  after met fs = met ++ filter (is_fresh fs)
+      (each_once (map (λ p. p.0) (in_turn (take (length left - 2) (drop 2 left))))) ≡ all
+
+  by : (b : Bool) → list_any (bytes_eq key) keys ≡ b
+      → goes_on (if b then keys else keys ++ key ∷ [])
+  by true e =
+      subst (after keys) (set_again key keys e)
+      (more_again key [] (fields keys) (field_set key [] (fields keys)) keys left all some first
+      refl so_far (among key keys ∙ ap not e))
+  by false e =
+      subst (after (keys ++ key ∷ [])) (set_new key keys e)
+      (more_first key [] (fields keys) (field_set key [] (fields keys)) keys left all some first
+      refl so_far (among key keys ∙ ap not e) (keys ++ key ∷ []) refl)
+
+  pub looked_on : (more : List (List ℕ)) → more ≡ with_key key keys → goes_on more
+  looked_on more is = subst goes_on (sym is) (by (list_any (bytes_eq key) keys) refl)

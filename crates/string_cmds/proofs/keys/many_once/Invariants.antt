@@ -3,7 +3,7 @@ use Rattle.std.specs.List.{filter}
 use Rattle.resp_value.specs.Tree.{in_turn}
 use Rattle.command_words.specs.KeyLists.{each_once}
 use Rattle.command_rows.proofs.KeysMet.{is_fresh}
-use Rattle.string_cmds.proofs.keys.each_key_once.Given as goal
+use Rattle.string_cmds.proofs.keys.many_once.Given as goal
 
 abbrev pub invariant-keys : goal.invariant-keys
 invariant-keys l =

@@ -5,7 +5,7 @@ use Rattle.command_words.specs.Hashes.{field_set}
 use Rattle.command_words.specs.KeyLists.{each_once}
 use Rattle.command_rows.proofs.KeysMet.{is_fresh}
 use Rattle.string_cmds.proofs.KeysOnce.{all_fresh, more_first, more_again}
-use Rattle.string_cmds.proofs.keys.each_key_once.Goals as goal
+use Rattle.string_cmds.proofs.keys.many_once.Goals as goal
 
 pub keys-init : goal.keys-init
 keys-init c =
