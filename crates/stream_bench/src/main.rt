@@ -5,7 +5,12 @@
 //! `reply_blobs`. `all` reads each, and so does no word.
 #![tactic(auto)]
 
-ghost use Rattle.std.specs.Prelude.{◌≡◌, ◌*◌, length, IfOk};
+ghost use Rattle.std.specs.Prelude.{◌≡◌, ◌∷◌, [], IfOk, IfErr};
+ghost use Rattle.resp_stream.specs.declared.fault.StreamFault.TheVariants as StreamFault;
+ghost use Rattle.stream_bench.specs.Reading as reading;
+ghost use Rattle.stream_bench.specs.Reading.{Counts, requests_in, values_in, Reads, new_readers};
+ghost use Rattle.stream_bench.specs.Reading.{blob_of, NewReads, mebibytes_of, blobs_of};
+ghost use Rattle.stream_bench.specs.Reading.{asked_of, Runs};
 
 #[cfg(test)]
 mod tests;
@@ -20,7 +25,8 @@ const PIECE: usize = 65536;
 
 /// The bytes, again and again, as often as 32 bytes fit into a piece.
 fn repeated(alloc: Global, bytes: &[u8]) -> Result<Vec<u8>, StreamFault>
-    ensures { IfOk result (λ piece. length piece.items ≡ 2048 * length bytes.now) }
+    ensures ok { IfOk result (λ piece. piece.items ≡ reading.repeated 2048 bytes.now) }
+    ensures err { IfErr result (λ fault. fault ≡ StreamFault.NoMemory) }
 {
     let mut piece = Vec::new(alloc);
     for _ in 0..PIECE / 32 {
@@ -31,40 +37,55 @@ fn repeated(alloc: Global, bytes: &[u8]) -> Result<Vec<u8>, StreamFault>
     Ok(piece)
 }
 
-fn feed_requests(reader: &mut RequestReader, piece: &[u8]) -> Result<u64, StreamFault> {
+fn feed_requests(reader: &mut RequestReader, piece: &[u8]) -> Result<u64, StreamFault>
+    ensures { Counts (requests_in (piece.now ∷ []) reader.old) reader.new result }
+{
     let Ok(()) = reader.feed(piece) else {
         return Err(StreamFault::NoMemory);
     };
-    let mut count = 0u64;
+    let mut requests = 0u64;
     for _ in 0..PIECE {
         match reader.next_request()? {
             Some(_) => {
-                count = count.saturating_add(1);
+                requests = requests.saturating_add(1);
             }
             None => {
-                return Ok(count);
+                return Ok(requests);
             }
         }
     }
-    Ok(count)
+    Ok(requests)
 }
 
-fn feed_values(reader: &mut ValueReader, piece: &[u8]) -> Result<u64, StreamFault> {
+fn feed_values(reader: &mut ValueReader, piece: &[u8]) -> Result<u64, StreamFault>
+    ensures { Counts (values_in (piece.now ∷ []) reader.old) reader.new result }
+{
     let Ok(()) = reader.feed(piece) else {
         return Err(StreamFault::NoMemory);
     };
-    let mut count = 0u64;
+    let mut values = 0u64;
     for _ in 0..PIECE {
         match reader.next_value()? {
             Some(_) => {
-                count = count.saturating_add(1);
+                values = values.saturating_add(1);
             }
             None => {
-                return Ok(count);
+                return Ok(values);
             }
         }
     }
-    Ok(count)
+    Ok(values)
+}
+
+/// The first line of a blob of 16 MiB.
+fn blob_head(requests: bool) -> &'static [u8]
+    ensures { result.now ≡ reading.head_of requests }
+{
+    if requests {
+        b"*1\r\n$16777216\r\n"
+    } else {
+        b"$16777216\r\n"
+    }
 }
 
 /// A reader of each kind.
@@ -75,7 +96,9 @@ struct Readers {
 }
 
 impl Readers {
-    fn new(alloc: Global) -> Readers {
+    fn new(alloc: Global) -> Readers
+        ensures { result ≡ new_readers }
+    {
         Readers {
             requests: RequestReader::new(alloc),
             values: ValueReader::new(alloc),
@@ -83,7 +106,9 @@ impl Readers {
     }
 
     /// Feeds one of them, and says how many requests or values it read.
-    fn feed(&mut self, requests: bool, bytes: &[u8]) -> Result<u64, StreamFault> {
+    fn feed(&mut self, requests: bool, bytes: &[u8]) -> Result<u64, StreamFault>
+        ensures { Reads requests (bytes.now ∷ []) self.old self.new result }
+    {
         if requests {
             feed_requests(&mut self.requests, bytes)
         } else {
@@ -92,7 +117,10 @@ impl Readers {
     }
 
     /// Feeds the piece so many times.
-    fn feed_often(&mut self, requests: bool, piece: &[u8], times: u64) -> Result<u64, StreamFault> {
+    fn feed_often(&mut self, requests: bool, piece: &[u8], times: u64) -> Result<u64, StreamFault>
+        ensures { Reads requests (reading.repeated times (piece.now ∷ []))
+            self.old self.new result }
+    {
         let mut count = 0u64;
         for _ in 0..times {
             count = count.saturating_add(self.feed(requests, piece)?);
@@ -101,20 +129,20 @@ impl Readers {
     }
 
     /// Feeds a blob of 16 MiB, 64 KiB at a time.
-    fn feed_blob(&mut self, requests: bool, piece: &[u8]) -> Result<u64, StreamFault> {
-        let head = if requests {
-            "*1\r\n$16777216\r\n"
-        } else {
-            "$16777216\r\n"
-        };
-        self.feed(requests, head.as_bytes())?;
-        self.feed_often(requests, piece, 256)?;
-        self.feed(requests, b"\r\n")
+    fn feed_blob(&mut self, requests: bool, piece: &[u8]) -> Result<u64, StreamFault>
+        ensures { Reads requests (blob_of requests piece.now) self.old self.new result }
+    {
+        let begun = self.feed(requests, blob_head(requests))?;
+        let held = self.feed_often(requests, piece, 256)?;
+        let ended = self.feed(requests, b"\r\n")?;
+        Ok(begun.saturating_add(held).saturating_add(ended))
     }
 }
 
 /// So many MiB of one request or reply, pipelined.
-fn pipelined(alloc: Global, requests: bool, bytes: &[u8], size: u64) -> Result<u64, StreamFault> {
+fn pipelined(alloc: Global, requests: bool, bytes: &[u8], size: u64) -> Result<u64, StreamFault>
+    ensures { NewReads requests (mebibytes_of bytes.now size) result }
+{
     let piece = repeated(alloc, bytes)?;
     let mut readers = Readers::new(alloc);
     let mut count = 0u64;
@@ -126,7 +154,9 @@ fn pipelined(alloc: Global, requests: bool, bytes: &[u8], size: u64) -> Result<u
 }
 
 /// So many blobs of 16 MiB, fed a piece at a time.
-fn blobs(alloc: Global, requests: bool, size: u64) -> Result<u64, StreamFault> {
+fn blobs(alloc: Global, requests: bool, size: u64) -> Result<u64, StreamFault>
+    ensures { NewReads requests (blobs_of requests size) result }
+{
     let piece = repeated(alloc, b"0123456789abcdef0123456789abcdef")?;
     let mut readers = Readers::new(alloc);
     let mut count = 0u64;
@@ -142,7 +172,9 @@ const GET: &[u8] = b"*2\r\n$3\r\nGET\r\n$12\r\nuser:0000017\r\n";
 const REPLY: &[u8] = b"$25\r\nthe value of the key 1234\r\n";
 
 /// Reads `size` MiB in this way; nothing for another word.
-fn run(alloc: Global, word: &str, size: u64) -> Option<Result<u64, StreamFault>> {
+fn run(alloc: Global, word: &str, size: u64) -> Option<Result<u64, StreamFault>>
+    ensures { Runs (asked_of word.now size) result }
+{
     match word {
         "gets" => Some(pipelined(alloc, true, GET, size)),
         "replies" => Some(pipelined(alloc, false, REPLY, size)),

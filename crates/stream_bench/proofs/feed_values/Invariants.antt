@@ -1,0 +1,11 @@
+use Rattle.std.proofs.Common.{◌-◌}
+use Rattle.resp_stream.specs.Parse.{batch_in}
+use Rattle.resp_stream.specs.Value.{value_at}
+use Rattle.resp_stream.specs.Stream.{fed}
+use Rattle.stream_bench.proofs.Counting.{HasRead}
+use Rattle.stream_bench.proofs.feed_values.Given as goal
+
+abbrev pub invariant-loop : goal.invariant-loop
+invariant-loop l =
+    HasRead (batch_in value_at (λ t. t) 65536 (fed l.fn.reader l.fn.piece))
+    (batch_in value_at (λ t. t) (65536 - l.counter) l.reader) l.values
