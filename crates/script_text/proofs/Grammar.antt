@@ -23,7 +23,7 @@ use Rattle.script_text.specs.Events.{bare, request_of, bytes_of, asked_of, polle
 use Rattle.script_text.specs.Events.{longest_line}
 use Rattle.script_text.specs.Grammar.{parts_of, line_of, amount_parts, client_parts, asking}
 use Rattle.script_text.specs.Grammar.{is_amount, is_request, are_bytes, has_fields, is_valid}
-use Rattle.script_text.specs.Grammar.{IsLineOf, LinesComeBack}
+use Rattle.script_text.specs.Grammar.{IsLineOf, LinesComeBack, EventsComeBack}
 use Rattle.script_text.proofs.Numbers.{both_true, both, number_within-decimal}
 use Rattle.script_text.proofs.Numbers.{decimal-number_within, small_within}
 use Rattle.script_text.proofs.Choices.{none_is_some, same_text, by_test, named, when}
@@ -427,3 +427,27 @@ event_back event line v is_line =
 
 pub lines_come_back : LinesComeBack
 lines_come_back event line b = (valid_line event line b, λ h. event_back event line h.0 h.1)
+
+own_line : (event : Event) → has_fields event ≡ true → IsLineOf event (line_of event)
+own_line (Raw link) h = refl
+own_line (Say link words) h = refl
+own_line (Bytes link bytes) h = refl
+own_line (Client client mode keys) h = refl
+own_line (Out link amount) h = refl
+own_line (Serve link amount) h = refl
+own_line (Send link amount) h = refl
+own_line (Recv link amount) h = refl
+own_line (Flow link) h = refl
+own_line FlowAll h = refl
+own_line (Cut link) h = refl
+own_line (Now moment) h = refl
+own_line Tick h = refl
+own_line (Ask client query) h =
+    let asked = both_true _ _ (both_true _ _ h).1 in
+    (query, (query_of-is_query query asked.0, asked.1, refl))
+own_line (Do client words) h = refl
+own_line (Poll client number) h = refl
+own_line (Show client) h = refl
+
+pub events_come_back : EventsComeBack
+events_come_back event v = event_back event (line_of event) v (own_line event (both_true _ _ v).0)

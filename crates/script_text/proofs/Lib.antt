@@ -9,3 +9,5 @@ pub mod Asking
 pub mod Grammar
 pub mod Valid
 pub mod Scripts
+pub mod Joining
+pub mod Storms

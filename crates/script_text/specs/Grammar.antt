@@ -90,6 +90,13 @@ parts_of (Show client) = codes "show" ∷ client ∷ []
 abbrev pub line_of : Event → List ℕ
 line_of event = join_with_byte 32 (parts_of event)
 
+unfoldable pub event_text : Event → List ℕ
+event_text event = line_of event ++ 10 ∷ []
+
+-- the parts behind the first of a line, a space ahead of each
+abbrev pub parts_text : List (List ℕ) → List ℕ
+parts_text parts = flat_map (λ part. 32 ∷ part) parts
+
 abbrev pub are_bytes : List ℕ → Bool
 are_bytes bytes = list_all is_byte bytes
 
@@ -142,3 +149,7 @@ IsLineOf event line = line_of event ≡ line
 abbrev pub LinesComeBack : Type 0
 LinesComeBack = (event : Event) (line : List ℕ) → are_bytes line ≡ true
     → (event_of line ≡ Some event) ↔ ((is_valid event ≡ true) × IsLineOf event line)
+
+-- so the line of a valid event has that event
+abbrev pub EventsComeBack : Type 0
+EventsComeBack = (event : Event) → is_valid event ≡ true → event_of (line_of event) ≡ Some event

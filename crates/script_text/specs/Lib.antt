@@ -5,5 +5,6 @@ pub mod Events
 pub mod Printed
 pub mod Grammar
 pub mod Valid
+pub mod Storm
 pub mod Scripts
 pub mod Answered

@@ -1,6 +1,7 @@
 //! Laws of the definitions, which hold of all texts.
-ghost use Rattle.script_text.specs.Grammar.{LinesComeBack};
+ghost use Rattle.script_text.specs.Grammar.{EventsComeBack, LinesComeBack};
 ghost use Rattle.script_text.specs.Scripts.{ScriptLinesComeBack, ScriptLinesAreValid};
+ghost use Rattle.script_text.specs.Storm.{StepsBeginOnce, StormsAreValid, StormsGrow};
 ghost use Rattle.script_text.specs.Valid.{EventsAreValid};
 ghost use Rattle.script_text.specs.Words.{WordsComeBack};
 
@@ -15,6 +16,11 @@ pub fn law_words_come_back()
 /// is read in any case, and no other line has an event.
 pub fn law_lines_come_back()
     ensures { LinesComeBack }
+{}
+
+/// The line of a valid event is read as that event.
+pub fn law_events_come_back()
+    ensures { EventsComeBack }
 {}
 
 /// Each line that has an event has a valid one: what a client may hold has its bounds, the words of
@@ -34,4 +40,20 @@ pub fn law_script_lines_come_back()
 /// client may send.
 pub fn law_script_lines_are_valid()
     ensures { ScriptLinesAreValid }
+{}
+
+/// Each event of a storm is valid, so that its line is read as it and a world can play it.
+pub fn law_storms_are_valid()
+    ensures { StormsAreValid }
+{}
+
+/// A storm with more steps begins with the events of that with fewer.
+pub fn law_storms_grow()
+    ensures { StormsGrow }
+{}
+
+/// A storm has the 7 events of its opening and then those of each step, of which it has as many as
+/// were asked for.
+pub fn law_steps_begin_once()
+    ensures { StepsBeginOnce }
 {}

@@ -159,7 +159,7 @@ fn put_named(name: &Octets, what: &[u8], out: &mut Vec<u8>) -> Result<(), NoMemo
     append(out, what)
 }
 
-fn put_words(words: &Words, out: &mut Vec<u8>) -> Result<(), NoMemory>
+pub fn put_words(words: &Words, out: &mut Vec<u8>) -> Result<(), NoMemory>
     ensures { OnOk result (out.new.items ≡ out.old.items ++ words_text words.now) }
 {
     for word in words.as_slice() {
