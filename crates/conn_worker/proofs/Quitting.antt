@@ -8,7 +8,6 @@ use Rattle.std.proofs.lemmas.Bool.Decides.{nat_tests}
 use Rattle.std.proofs.lemmas.Slice.Eq.{bytes_eq-Decides}
 use Rattle.command_words.specs.declared.command.Command.{Command}
 use Rattle.command_words.specs.declared.command.Command.TheVariants as command
-use Rattle.command_words.specs.declared.command.TrackOptions.{TrackOptions}
 use Rattle.command_words.specs.declared.command.WordFault.{WordFault}
 use Rattle.command_words.specs.declared.command.WordFault.TheVariants.{Unknown, Arity, Syntax}
 use Rattle.command_words.specs.declared.command.WordFault.TheVariants.{BadNumber, BadExpire}
@@ -165,17 +164,12 @@ of_data n ws rest =
 
 -- ---- those of a connection
 
-tracks : (b : Bool) (o : TrackOptions)
-    → is_quitting (ending_of (if b then Ok (command.ClientTracking o) else Err Unknown)) ≡ false
-tracks true o = refl
-tracks false o = refl
-
 of_client : (n : List ℕ) (ws : List (List ℕ)) → NoQuit (client_reading n ws)
 unfolding client_reading
 of_client n ws =
     either (bytes_eq n (codes "id")) (none (λ _. command.ClientId) (no_word ws) (λ a. plain refl))
     (either (bytes_eq n (codes "tracking"))
-    (none command.ClientTracking (tracking ws) (λ o. plain (tracks _ o)))
+    (none command.ClientTracking (tracking ws) (λ a. plain refl))
     (either (bytes_eq n (codes "caching"))
     (none command.ClientCaching (yes_or_no ws) (λ a. plain refl))
     (either (bytes_eq n (codes "getredir"))

@@ -1,8 +1,8 @@
 -- What a Run tells of before its reply stands ahead of the reply.
 use Rattle.std.proofs.Common.{◌≡◌, ◌+◌, ◌<◌, ◌≤◌, ℕ, zero, suc, List, [], ◌∷◌, ◌++◌, length}
-use Rattle.std.proofs.Common.{Bool, true, false, ap, sym, ◌∙◌, arith, Some}
+use Rattle.std.proofs.Common.{Bool, true, false, ap, sym, subst, ◌∙◌, arith, Some}
 use Rattle.std.proofs.Common.{inl, inr, get_or, length-append, append_assoc}
-use Rattle.std.specs.Prelude.{slice_get, ◌==◌, ◌&&◌}
+use Rattle.std.specs.Prelude.{slice_get, ◌==◌}
 use Rattle.std.specs.List.{filter, list_any}
 use Rattle.std.proofs.lemmas.Bool.{and_parts, both_ways, cases_lt, eqb-true}
 use Rattle.std.proofs.lemmas.Option.{same_Some, slice_get_within, slice_get-get_or}
@@ -12,19 +12,18 @@ use Rattle.serial_model.specs.declared.history.Limits.{Limits}
 use Rattle.serial_model.specs.declared.history.Entry.{Entry}
 use Rattle.serial_model.specs.declared.history.Entry.TheVariants.{Run}
 use Rattle.track_modes.specs.ModeState as track
-use Rattle.track_modes.specs.ModeState.{ModeState}
 use Rattle.serial_model.specs.Tracking.{Invalidation, push_of, names_key, tells}
 use Rattle.serial_model.specs.State.{State, is_on}
-use Rattle.serial_model.specs.Actions.{Sending, Message, End}
-use Rattle.serial_model.specs.Plain.{is_three, pushes, tests_before}
-use Rattle.serial_model.specs.History.{expiry_group, mode, runs_on, sent_to, sent, state}
-use Rattle.serial_model.proofs.Counts.{on_is}
+use Rattle.serial_model.specs.Actions.{Sending, Message, End, routed}
+use Rattle.serial_model.specs.Laws.{IsDirect}
+use Rattle.serial_model.specs.History.{IsLegal, expiry_group, mode, runs_on, sent_to, sent, state}
 use Rattle.serial_model.proofs.Tables.{sent_to-append}
 use Rattle.currency.proofs.Lists.{get_parts, get_front, get_behind, one_passes}
+use Rattle.currency.proofs.Routes.{own_way}
 use Rattle.currency.proofs.Runs.{Older}
-use Rattle.currency.proofs.Sent.{Told, is_sent_to, pushes_at, sent_le, sent_older}
+use Rattle.currency.proofs.Sent.{Told, is_sent_to, routed_at, sent_le, sent_older}
 use Rattle.currency.proofs.Replies as replies
-use Rattle.currency.proofs.Replies.{is_reply_at, pushes_no_reply, reply_to, run_sends_are}
+use Rattle.currency.proofs.Replies.{is_reply_at, reply_to, routed_no_reply, run_sends_are}
 
 -- none of those passes the test
 none_kept : {A : Type 0} (p : A → Bool) (xs : List A) → filter p xs ≡ [] → (i : ℕ) (y : A)
@@ -33,14 +32,10 @@ none_kept p [] e i y at = cc
 none_kept p (x ∷ xs) e zero y at = grind (arith, common_steps)
 none_kept p (x ∷ xs) e (suc i) y at = grind (arith, common_steps, none_kept p xs)
 
--- a connection that tracks on the third protocol and has not ended takes pushes
-takes_is : (m : ModeState) (on : Bool) → track.is_on m.tracking ≡ true → on ≡ true
-    → m.proto ≡ Three → ((track.is_on m.tracking && on) && is_three m.proto) ≡ true
-takes_is m on tracks live three = grind arith
-
 -- a Run of a connection that has not ended
 module _ (c : ℕ) (l : Limits) (past up : List Entry) (id : ℕ) (words : List (List ℕ)) (m : ℕ)
-    (o : Older (Run id words m ∷ up) past) (on : runs_on l up id ≡ true) where
+    (o : Older (Run id words m ∷ up) past) (legal : IsLegal l up) (on : runs_on l up id ≡ true)
+    (off : (mode l c up).subscribed ≡ false) where
   abbrev n : ℕ
   n = length up + 1
 
@@ -52,7 +47,7 @@ module _ (c : ℕ) (l : Limits) (past up : List Entry) (id : ℕ) (words : List 
   told = expiry_group l up m
 
   abbrev before : List (ℕ × Sending)
-  before = pushes (tests_before now) told
+  before = routed now.modes (is_on now) told
 
   abbrev behind : List (ℕ × Sending)
   behind =
@@ -68,7 +63,7 @@ module _ (c : ℕ) (l : Limits) (past up : List Entry) (id : ℕ) (words : List 
   sent_is : sent l c (Run id words m ∷ up) ≡ sent l c up ++ (early ++ late)
   sent_is =
       ap (λ ss. sent l c up ++ sent_to n c ss)
-      (run_sends_are l up id words m on
+      (run_sends_are l up id words m legal on
       ∙ append_assoc (before ++ (id, reply_to l up id words m) ∷ []) (replies.late l up id words m)
       (replies.ending l up id words m)
       ∙ append_assoc before ((id, reply_to l up id words m) ∷ [])
@@ -88,7 +83,7 @@ module _ (c : ℕ) (l : Limits) (past up : List Entry) (id : ℕ) (words : List 
               | inl e ↦
                   absurd (both_ways (is_reply_at s)
                   (none_kept is_reply_at early
-                  (pushes_no_reply n c (tests_before now) told) b.at s e) reply)
+                  (routed_no_reply n c now.modes off (is_on now) told) b.at s e) reply)
               | inr d ↦ omega (arith, b.is, d.is)
             ]
       ]
@@ -107,12 +102,6 @@ module _ (c : ℕ) (l : Limits) (past up : List Entry) (id : ℕ) (words : List 
         | inr ge ↦ grind (arith, sent_is, length-append)
       ]
 
-  takes : (d : ℕ) → d ≡ c → runs_on l up c ≡ true → track.is_on (mode l c up).tracking ≡ true
-      → (mode l c up).proto ≡ Three → tests_before now d ≡ true
-  takes d same live tracks three =
-      ap (tests_before now) same
-      ∙ takes_is (mode l c up) (is_on now c) tracks (on_is l up c ∙ live) three
-
   early_at : (i : ℕ) (y : ℕ × Sending) → slice_get early i ≡ Some y
       → slice_get (sent l c (Run id words m ∷ up)) (length (sent l c up) + i) ≡ Some y
   early_at i y at =
@@ -121,15 +110,17 @@ module _ (c : ℕ) (l : Limits) (past up : List Entry) (id : ℕ) (words : List 
 
   -- whom it tells in its first group has a push of it ahead of each reply of the entry
   pub told_ahead : (key : List ℕ) → list_any (tells c key) (expiry_group l up m) ≡ true
-      → runs_on l up c ≡ true → track.is_on (mode l c up).tracking ≡ true
-      → (mode l c up).proto ≡ Three → (place : ℕ) (s : ℕ × Sending)
+      → track.is_on (mode l c up).tracking ≡ true → IsDirect (mode l c up)
+      → (place : ℕ) (s : ℕ × Sending)
       → slice_get (sent l c past) place ≡ Some s → s.0 ≡ n → is_reply_at s ≡ true
       → (t : Told c l (Run id words m ∷ up) n key) × (t.place < place)
-  told_ahead key due live tracks three place s at number reply =
+  told_ahead key due tracks direct place s at number reply =
       let p = one_passes (tells c key) told due in
       let h = and_parts (p.one.to == c) (names_key p.one.keys key) p.passes in
-      let r = pushes_at c l (tests_before now) told p.at p.one p.there
-      (takes p.one.to (eqb-true p.one.to c h.0) live tracks three) in
+      let is : c ≡ p.one.to = sym (eqb-true p.one.to c h.0) in
+      let r = routed_at c l now.modes (is_on now) told p.at p.one p.there
+      (own_way now.modes (is_on now) p.one (subst (λ d. track.is_on (mode l d up).tracking ≡ true)
+      is tracks) (subst (λ d. IsDirect (mode l d up)) is direct)) in
       let push : Sending = Message Three (push_of p.one.keys) in
       let e = is_sent_to c n before r.0 (p.one.to, push) r.1 h.0 in
       let within = slice_get_within early e.0 (n, push) e.1 in

@@ -5,6 +5,7 @@ use Rattle.std.proofs.Common.{◌≡◌, ◌+◌, ◌-◌, ◌<◌, ◌≤◌, �
 use Rattle.std.proofs.Common.{Bool, true, false, not, Result, Ok, Err, Option, Some, None, refl, ap}
 use Rattle.std.proofs.Common.{sym, ◌∙◌, arith, subst, inl, inr}
 use Rattle.std.specs.Prelude.{slice_get, ◌&&◌, ◌==◌, ◌||◌, nat_eq}
+use Rattle.std.specs.FinMap.{empty}
 use Rattle.std.specs.List.{filter, list_any, starts_with}
 use Rattle.std.proofs.lemmas.Bool.{and_from, and_parts, both_ways, cases_Bool, eqb-true}
 use Rattle.std.proofs.lemmas.Bool.{or_cases, or_from, or_parts, or_right}
@@ -15,7 +16,9 @@ use Rattle.resp_value.specs.Carried.{carried}
 use Rattle.resp_value.specs.Tree.{Tree}
 use Rattle.resp_value.specs.ValueTree.{tree_of}
 use Rattle.command_words.specs.Effects.{answer}
+use Rattle.command_words.specs.Expiry.{without_due}
 use Rattle.command_words.specs.Queries.{key_of, reads_as_cacheable, writes, written_by}
+use Rattle.command_words.specs.Space.{Space}
 use Rattle.command_words.specs.Words.{reading}
 use Rattle.command_words.specs.Laws.{SignalsAreWritten, signals}
 use Rattle.command_words.specs.declared.command.Command.{Command}
@@ -30,19 +33,22 @@ use Rattle.track_modes.specs.declared.tracking.Tracking.{Tracking}
 use Rattle.serial_model.specs.declared.history.Limits.{Limits}
 use Rattle.serial_model.specs.declared.history.Entry.{Entry}
 use Rattle.serial_model.specs.declared.history.Entry.TheVariants.{Admit, Run, Tick}
-use Rattle.serial_model.specs.History.{IsLegal, Sending, expired, has_ended, is_admitted, keyspace}
-use Rattle.serial_model.specs.History.{made, made_of, mode, ran as ran_of, ran_over, run_entries}
-use Rattle.serial_model.specs.History.{runner, runs_of, runs_on, sent, served_reading, state, table}
+use Rattle.serial_model.specs.History.{IsLegal, Sending, effect_of, expired, has_ended, is_admitted}
+use Rattle.serial_model.specs.History.{keyspace, made, made_of, mode, ran as ran_of}
+use Rattle.serial_model.specs.History.{run_entries, runner, runs_of, runs_on, sent, served_reading}
+use Rattle.serial_model.specs.History.{state, table}
 use Rattle.serial_model.specs.Laws.{ChangeIsSignalled, RegisteredIsMode, covers_key, drops_key}
 use Rattle.serial_model.specs.Laws.{has_prefix_of, is_among, is_due}
 use Rattle.serial_model.specs.Laws.{is_forgets, is_told, remembers, signals_key, signals_key_to}
 use Rattle.serial_model.specs.Laws.{signals_to, stops_tracking}
-use Rattle.serial_model.specs.Modes.{Runner, memory_of, own_effect, unless_refused}
+use Rattle.serial_model.specs.Modes.{Runner, is_confined, memory_of, own_effect}
+use Rattle.serial_model.specs.Modes.{unless_refused}
 use Rattle.serial_model.specs.State.{State, is_on}
 use Rattle.serial_model.proofs.Counts.{on_is}
 use Rattle.serial_model.proofs.ModeSteps.{mode_own}
 use Rattle.serial_model.proofs.OwedLaws.{read_is_owed_or_told, told_ends_for_cause}
 use Rattle.serial_model.proofs.ReadLaws.{read_replies}
+use Rattle.serial_model.proofs.ServedRows.{ran_cases}
 use Rattle.serial_model.proofs.ToldLaws.{told_is_due}
 use Rattle.shared_cache.specs.declared.entry.CacheEntry.{CacheEntry}
 use Rattle.shared_cache.specs.declared.log.LogEntry.{LogEntry}
@@ -53,6 +59,7 @@ use Rattle.currency.specs.Links.{Client, IsGot, is_reply_sent, is_single, traffi
 use Rattle.currency.specs.Current.{fetch_on}
 use Rattle.currency.proofs.Covers.{IsToldOf}
 use Rattle.currency.proofs.Numbered.{next}
+use Rattle.currency.proofs.OffChannel.{KeepsOff}
 use Rattle.currency.proofs.Placed.{reply_at}
 use Rattle.currency.proofs.Replies.{replies_are_of_runs, reply_some}
 use Rattle.currency.proofs.Runs.{Older, RanAt, older_legal, older_tail, older_up_to, runs_there}
@@ -78,21 +85,23 @@ stops_leaves by (Err fault) h = absurd (let no : ⊥ = cc in no)
 
 made_leaves : (words : List (List ℕ)) (by : Runner) → is_forgets (made_of words by).memory ≡ true
     → track.is_on (made_of words by).mode.tracking ≡ false
-unfolding made_of
-made_leaves words by h = stops_leaves by (served_reading words) h
+made_leaves words by =
+    ran_cases by words
+    (λ e o. is_forgets o.memory ≡ true → track.is_on o.mode.tracking ≡ false) empty 0
+    (stops_leaves by (served_reading words)) (λ h. absurd (let no : ⊥ = cc in no))
 
 keeps_tracking : (l : Limits) (e : Entry) (up : List Entry) (c : ℕ)
     → track.is_on (mode l c (e ∷ up)).tracking ≡ true → stops_tracking l e up c ≡ false
 keeps_tracking l (Run id words moment) up c tracks =
     elim (id == c) as (λ b. (id == c) ≡ b
-    → (b && is_forgets (made l up id words).memory) ≡ false) [
+    → (b && is_forgets (made l up id words moment).memory) ≡ false) [
       | true ↦ λ own.
-          elim (is_forgets (made l up id words).memory) as (λ b.
-          is_forgets (made l up id words).memory ≡ b → b ≡ false) [
+          elim (is_forgets (made l up id words moment).memory) as (λ b.
+          is_forgets (made l up id words moment).memory ≡ b → b ≡ false) [
             | true ↦ λ forgets.
                 let gone = ap (λ (m : ModeState). track.is_on m.tracking)
                 (mode_own l c id moment words up own)
-                ∙ made_leaves words (runner l up id words) forgets in
+                ∙ made_leaves words (runner l up id words moment) forgets in
                 absurd (both_ways (track.is_on (mode l c (Run id words moment ∷ up)).tracking) gone
                 tracks)
             | false ↦ λ keeps. refl
@@ -127,10 +136,19 @@ passed_over signalled.All left own noloop key h none =
     absurd (both_ways (left || true) none h)
 
 module _ (written : SignalsAreWritten) (l : Limits) (up : List Entry) where
+  allowed_written : (by : Runner) (words : List (List ℕ)) (space : Space) (m : ℕ) (key : List ℕ)
+      → signals (effect_of by words (served_reading words) space m).signalled key ≡ true
+      → writes words key ≡ true
+  unfolding written_by
+  allowed_written by words space m key h = grind arith
+
   ran_written : (id : ℕ) (words : List (List ℕ)) (m : ℕ) (key : List ℕ)
       → signals (ran_of l up id words m).signalled key ≡ true → writes words key ≡ true
-  unfolding ran_over written_by
-  ran_written id words m key h = grind arith
+  ran_written id words m key =
+      let by = runner l up id words m in
+      let space = without_due m (keyspace l up) in
+      ran_cases by words (λ e o. signals e.signalled key ≡ true → writes words key ≡ true) space m
+      (allowed_written by words space m key) (λ h. absurd (let no : ⊥ = cc in no))
 
   own_write : (c : ℕ) (key : List ℕ) (e : Entry) → signals_key l e up key ≡ true
       → signals_key_to l e up c key ≡ false → OwnWrite e c key
@@ -174,7 +192,7 @@ module _ (l : Limits) (up : List Entry) (c : ℕ) (key : List ℕ) where
   s = state l up
 
   -- one that is told has not ended
-  pub told_runs : is_told l up c key ≡ true → runs_on l up c ≡ true
+  told_runs : is_told l up c key ≡ true → runs_on l up c ≡ true
   told_runs told =
       sym (on_is l up c)
       ∙ (and_parts (is_on s c) (remembers s.table c key || has_prefix_of s.prefixes c key) told).0
@@ -209,7 +227,8 @@ pub record Read (l : Limits) (x : Client) (past : List Entry) (home : Wire) (h :
   pub told_of : IsToldOf (mode l (x.id home) run.up) (key_of h.query)
 
 module _ (l : Limits) (x : Client) (past : List Entry) (home : Wire) (watched : List Wire)
-    (home_watched : In home watched) (legal : IsLegal l past) (h : CacheEntry)
+    (home_watched : In home watched) (legal : IsLegal l past)
+    (keeps : KeepsOff (x.id home) past) (h : CacheEntry)
     (serves : reads_as_cacheable (served_reading h.query) ≡ true)
     (cacheable : reads_as_cacheable (reading h.query) ≡ true) where
   abbrev T : Traffic Wire LogEntry (List (List ℕ)) Value Sending
@@ -226,6 +245,7 @@ module _ (l : Limits) (x : Client) (past : List Entry) (home : Wire) (watched : 
       (settings : (up : List Entry) → AsAsked up → (mode l (x.id home) up).tracking ≡ asked)
       (protocols : (up : List Entry) → AsAsked up
       → (mode l (x.id home) up).proto ≡ x.setup.mode.proto)
+      (free : (up : List Entry) → AsAsked up → is_confined (mode l (x.id home) up) ≡ false)
       (landed : (e : Entry) (up : List Entry) → Older (e ∷ up) past
       → runs_on l up (x.id home) ≡ true
       → is_due l e up (x.id home) (key_of h.query) ≡ true → AsAsked up → AsAsked (e ∷ up)
@@ -258,7 +278,7 @@ module _ (l : Limits) (x : Client) (past : List Entry) (home : Wire) (watched : 
         let c = x.id home in
         let p = reply_at l c past (h.number - 1) s
         (ap (λ ss. slice_get ss (h.number - 1))
-        (sym (replies_are_of_runs l c past legal)) ∙ e) in
+        (sym (replies_are_of_runs l c past legal keeps)) ∙ e) in
         let run = Run p.id p.words p.moment in
         let number : length p.up + 1 ≡ at =
         same_Some (length p.up + 1) at (sym p.entry ∙ ran) in
@@ -269,12 +289,15 @@ module _ (l : Limits) (x : Client) (past : List Entry) (home : Wire) (watched : 
         sym all ∙ run_is at t in
         let words : p.words ≡ h.query =
         (let same : p.words ≡ t.run.words = cc in same) ∙ words_are at t there in
-        let fits : (made l p.up p.id p.words).mode.proto ≡ x.setup.mode.proto =
+        let fits : (made l p.up p.id p.words p.moment).mode.proto ≡ x.setup.mode.proto =
         ap (λ (m : ModeState). m.proto) (sym (mode_own l c p.id p.moment p.words p.up p.own))
         ∙ ap (λ u. (mode l c u).proto) (sym all) ∙ protocols (up_to at past) good in
         let reads = sym (reply_some l p.up p.id p.words p.moment)
         ∙ read_replies l p.id p.moment p.words p.up
-        (ap (λ ws. reads_as_cacheable (served_reading ws)) words ∙ serves) in
+        (ap (λ ws. reads_as_cacheable (served_reading ws)) words ∙ serves)
+        (ap (λ d. is_confined (mode l d p.up)) (eqb-true p.id c p.own)
+        ∙ ap (λ u. is_confined (mode l c u)) (let same : p.up ≡ t.run.up = cc in same)
+        ∙ free t.run.up t.before) in
         subst (IsGot v) p.reply got
         ∙ ap (λ o. carried o (tree_of (ran_of l p.up p.id p.words p.moment).reply)) fits
         ∙ ap (λ a. carried x.setup.mode.proto (tree_of a))
@@ -315,7 +338,7 @@ module _ (l : Limits) (x : Client) (past : List Entry) (home : Wire) (watched : 
           | inl remembered ↦
               let read = read_is_owed_or_told l c t.run.moment t.run.words up k legal_all
               (ap (λ ws. reads_as_cacheable (served_reading ws)) (words_are at t there) ∙ serves)
-              remembered (ap key_of (words_are at t there)) in
+              (free up t.before) remembered (ap key_of (words_are at t there)) in
               elim (or_cases (is_told l (e ∷ up) c k || is_due l e up c k) (has_ended l c (e ∷ up))
               read) [
                 | inl rest ↦

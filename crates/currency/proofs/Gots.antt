@@ -1,7 +1,8 @@
 -- What was got of what was sent.
 use Rattle.std.proofs.Common.{◌≡◌, ◌+◌, ℕ, List, [], ◌∷◌, ◌++◌, length, Bool, true}
-use Rattle.std.proofs.Common.{false, cond, refl, ap, sym, subst, ◌∙◌, arith}
+use Rattle.std.proofs.Common.{false, cond, refl, ap, sym, subst, ◌∙◌, arith, None, Some}
 use Rattle.std.specs.Prelude.{◌==◌, Option, not}
+use Rattle.std.proofs.lemmas.Bool.{both_ways, eqb-true}
 use Rattle.resp_value.specs.Tree.{Tree}
 use Rattle.resp_value.specs.Tree as tree
 use Rattle.resp_value.specs.ValueTree.{tree_of}
@@ -10,19 +11,26 @@ use Rattle.resp_value.specs.declared.value.Value.{Value}
 use Rattle.resp_value.specs.declared.value.Value.TheVariants.{Push}
 use Rattle.resp_value.specs.declared.value.Proto.{Proto}
 use Rattle.resp_value.specs.declared.value.Proto.TheVariants.{Three}
+use Rattle.track_modes.specs.ModeState.{ModeState, redirect_of}
+use Rattle.redirect.specs.declared.routes.Route.{Route}
+use Rattle.redirect.specs.declared.routes.Route.TheVariants as route
 use Rattle.serial_model.specs.declared.history.Limits.{Limits}
 use Rattle.serial_model.specs.declared.history.Entry.{Entry}
 use Rattle.serial_model.specs.declared.history.Entry.TheVariants.{Admit, Run, Tick, Take, Close}
-use Rattle.serial_model.specs.Tracking.{Invalidation, push_of}
-use Rattle.serial_model.specs.State.{is_live}
-use Rattle.serial_model.specs.Actions.{Sending, Message, End, expiry_told, later_told}
-use Rattle.serial_model.specs.Plain.{pushed, pushes, tests_before, tests_then}
-use Rattle.serial_model.specs.History.{IsLegal, run_action, sends, sent_to, sent, state}
-use Rattle.serial_model.specs.History.{is_quit, tick_action}
-use Rattle.serial_model.proofs.PlainActions.{tick_sends}
+use Rattle.serial_model.specs.Tracking.{Invalidation}
+use Rattle.serial_model.specs.State.{is_live, is_on}
+use Rattle.serial_model.specs.Actions as actions
+use Rattle.serial_model.specs.Actions.{Sending, Message, End, expiry_told, later_told, modes_then}
+use Rattle.serial_model.specs.Actions.{route_at, routed, way}
+use Rattle.serial_model.specs.History.{IsLegal, is_quit, made, mode, ran, run_action, sends}
+use Rattle.serial_model.specs.History.{sent_to, sent, state, tick_action}
+use Rattle.serial_model.proofs.ActionSends.{tick_sends}
+use Rattle.serial_model.proofs.Tables.{sent_to-append}
 use Rattle.shared_cache.specs.Notices.{push, kind_of, is_reply}
 use Rattle.currency.specs.Links.{IsGot, is_push, is_reply_sent}
+use Rattle.currency.proofs.OffChannel.{KeepsOff, off_mode, off_tail}
 use Rattle.currency.proofs.Replies.{early, ending, late, reply_no_push, reply_to, run_sends_are}
+use Rattle.currency.proofs.Runs.{older_all}
 
 -- ---- a push is got as a push, and a reply as a reply
 
@@ -40,10 +48,10 @@ carried_no_push : (p : Proto) (v : Value) → is_push v ≡ false
 unfolding tree_is_push is_push
 carried_no_push p v h = grind arith
 
-carried_push : (keys : Option (List (List ℕ)))
-    → tree_is_push (carried Three (tree_of (push_of keys))) ≡ true
-unfolding tree_is_push
-carried_push keys = refl
+carried_push : (v : Value) → is_push v ≡ true → tree_is_push (carried Three (tree_of v)) ≡ true
+unfolding tree_is_push is_push
+carried_push (Push ts) h = refl
+carried_push v h = grind arith
 
 push_no_reply : (ts : List Tree) → is_reply (push ts) ≡ false
 push_no_reply ts = grind arith
@@ -53,20 +61,20 @@ unfolding is_push
 kind_reply (Push ts) = push_no_reply ts
 kind_reply _ = refl
 
--- a message of the third protocol if it is a push, and then an invalidation
+-- a push is sent on the third protocol alone, where it is carried as one
 unfoldable pub IsSent : Sending → Type 0
 IsSent End = Unit {0}
-IsSent (Message p v) =
-    ((is_push v ≡ true) → (p ≡ Three) × ((keys : Option (List (List ℕ))) × (v ≡ push_of keys)))
+IsSent (Message p v) = is_push v ≡ true → p ≡ Three
 
 unfoldable pub AllSent : List (ℕ × Sending) → Type 0
 AllSent [] = Unit {0}
 AllSent (s ∷ ss) = IsSent s.1 × AllSent ss
 
-both_kinds : (b : Bool) (v u : Value) (p : Proto) → is_push v ≡ b
-    → (is_push v ≡ true → (p ≡ Three) × ((keys : Option (List (List ℕ))) × (v ≡ push_of keys)))
+both_kinds : (b : Bool) (v u : Value) (p : Proto) → is_push v ≡ b → (is_push v ≡ true → p ≡ Three)
     → tree_of u ≡ carried p (tree_of v) → is_push u ≡ b
-both_kinds true v u p e form got = grind (arith, tree_of_push, carried_push)
+both_kinds true v u p e form got =
+    sym (tree_of_push u) ∙ ap tree_is_push (got ∙ ap (λ q. carried q (tree_of v)) (form e))
+    ∙ carried_push v e
 both_kinds false v u p e form got =
     sym (tree_of_push u) ∙ ap tree_is_push got ∙ carried_no_push p v e
 
@@ -94,24 +102,23 @@ unfolding AllSent
 form_append [] ys a b = b
 form_append (x ∷ xs) ys a b = (a.0, form_append xs ys a.1 b)
 
-pushed_form : (test : ℕ → Bool) (i : Invalidation) → AllSent (pushed test i)
-unfolding AllSent IsSent
-pushed_form test i = grind arith
+carried_form : (r : Route) (target : Option ℕ) (keys : Option (List (List ℕ)))
+    → AllSent (actions.carried r target keys)
+unfolding AllSent IsSent is_push
+carried_form (route.Push r) target keys = (λ h. refl, tt)
+carried_form (route.Message r) target keys = (λ h. absurd (let no : ⊥ = cc in no), tt)
+carried_form (route.BrokenNotice r) None keys = tt
+carried_form (route.BrokenNotice r) (Some to) keys = (λ h. refl, tt)
+carried_form route.Nowhere target keys = tt
 
-pushes_form : (test : ℕ → Bool) (told : List Invalidation) → AllSent (pushes test told)
+routed_form : (modes : ℕ → ModeState) (on : ℕ → Bool) (told : List Invalidation)
+    → AllSent (routed modes on told)
 unfolding AllSent
-pushes_form test [] = tt
-pushes_form test (i ∷ told) =
-    form_append (pushed test i) (pushes test told) (pushed_form test i) (pushes_form test told)
-
-reply_form : (l : Limits) (past : List Entry) (id : ℕ) (words : List (List ℕ)) (m : ℕ)
-    → IsSent (reply_to l past id words m)
-unfolding IsSent
-reply_form l past id words m h = grind (arith, is_push, reply_no_push)
-
-one_form : (id : ℕ) (s : Sending) → IsSent s → AllSent ((id, s) ∷ [])
-unfolding AllSent
-one_form id s h = (h, tt)
+routed_form modes on [] = tt
+routed_form modes on (i ∷ told) =
+    form_append (way modes on i) (routed modes on told)
+    (carried_form (route_at modes on i.to) (redirect_of (modes i.to).tracking) i.keys)
+    (routed_form modes on told)
 
 end_form : (live : Bool) (id : ℕ) → AllSent (cond live ((id, End) ∷ []) [])
 unfolding AllSent IsSent
@@ -122,36 +129,70 @@ none_form : AllSent []
 unfolding AllSent
 none_form = tt
 
-sends_form : (l : Limits) (e : Entry) (past : List Entry) → IsLegal l (e ∷ past)
-    → AllSent (sends l e (state l past))
-sends_form l (Tick m) past h =
-    let s = state l past in
-    let t = tick_action m s in
-    subst AllSent (sym (tick_sends l past m))
-    (form_append ((pushes (tests_before s) (expiry_told t s) ++ [])
-    ++ pushes (tests_then t s) (later_told l t s)) []
-    (form_append (pushes (tests_before s) (expiry_told t s) ++ [])
-    (pushes (tests_then t s) (later_told l t s))
-    (form_append (pushes (tests_before s) (expiry_told t s)) []
-    (pushes_form (tests_before s) (expiry_told t s)) none_form)
-    (pushes_form (tests_then t s) (later_told l t s)))
-    none_form)
-sends_form l (Close id) past h = end_form (is_live ((state l past).standing id)) id
-sends_form l (Run id words m) past h =
-    let s = state l past in
-    let t = run_action id words m s in
-    subst AllSent (sym (run_sends_are l past id words m h.0))
-    (form_append ((early l past id words m ++ (id, reply_to l past id words m) ∷ [])
-    ++ late l past id words m) (ending l past id words m)
-    (form_append (early l past id words m ++ (id, reply_to l past id words m) ∷ [])
-    (late l past id words m)
-    (form_append (early l past id words m) ((id, reply_to l past id words m) ∷ [])
-    (pushes_form (tests_before s) (expiry_told t s))
-    (one_form id (reply_to l past id words m) (reply_form l past id words m)))
-    (pushes_form (tests_then t s) (later_told l t s)))
-    (end_form (is_quit words) id))
-sends_form l (Admit id) past h = none_form
-sends_form l (Take id max) past h = none_form
+own_form : (b : Bool) (n : ℕ) (s : Sending) → (b ≡ true → IsSent s)
+    → AllSent (cond b ((n, s) ∷ []) [])
+unfolding AllSent
+own_form true n s h = (h refl, tt)
+own_form false n s h = tt
+
+no_push_form : (p : Proto) (v : Value) → is_push v ≡ false → IsSent (Message p v)
+unfolding IsSent
+no_push_form p v none h = absurd (both_ways (is_push v) none h)
+
+-- ---- to a connection that keeps off the channel of invalidations
+
+module _ (l : Limits) (c : ℕ) where
+  reply_form : (id m : ℕ) (words : List (List ℕ)) (past : List Entry)
+      → KeepsOff c (Run id words m ∷ past) → (id == c) ≡ true
+      → IsSent (reply_to l past id words m)
+  reply_form id m words past keeps own =
+      let off : (mode l id past).subscribed ≡ false =
+      ap (λ d. (mode l d past).subscribed) (eqb-true id c own)
+      ∙ off_mode l c past (off_tail c (Run id words m) past keeps) in
+      no_push_form (made l past id words m).mode.proto (ran l past id words m).reply
+      (reply_no_push l past id words m off
+      (keeps id m words past (older_all (Run id words m ∷ past)) own))
+
+  to_parts : (n : ℕ) (xs ys zs us : List (ℕ × Sending))
+      → AllSent (sent_to n c xs) → AllSent (sent_to n c ys) → AllSent (sent_to n c zs)
+      → AllSent (sent_to n c us) → AllSent (sent_to n c (((xs ++ ys) ++ zs) ++ us))
+  to_parts n xs ys zs us a b d e =
+      subst AllSent
+      (sym (sent_to-append n c ((xs ++ ys) ++ zs) us
+      ∙ ap (λ ss. ss ++ sent_to n c us) (sent_to-append n c (xs ++ ys) zs
+      ∙ ap (λ ss. ss ++ sent_to n c zs) (sent_to-append n c xs ys))))
+      (form_append ((sent_to n c xs ++ sent_to n c ys) ++ sent_to n c zs) (sent_to n c us)
+      (form_append (sent_to n c xs ++ sent_to n c ys) (sent_to n c zs)
+      (form_append (sent_to n c xs) (sent_to n c ys) a b) d) e)
+
+  sends_form : (n : ℕ) (e : Entry) (past : List Entry) → IsLegal l (e ∷ past)
+      → KeepsOff c (e ∷ past) → AllSent (sent_to n c (sends l e (state l past)))
+  sends_form n (Tick m) past h keeps =
+      let s = state l past in
+      let t = tick_action m s in
+      let before = routed s.modes (is_on s) (expiry_told t s) in
+      let behind = routed (modes_then t s) (is_on s) (later_told l t s) in
+      subst (λ ss. AllSent (sent_to n c ss)) (sym (tick_sends l past m h.2))
+      (to_parts n before [] behind []
+      (to_form n c before (routed_form s.modes (is_on s) (expiry_told t s))) none_form
+      (to_form n c behind (routed_form (modes_then t s) (is_on s) (later_told l t s))) none_form)
+  sends_form n (Run id words m) past h keeps =
+      let s = state l past in
+      let t = run_action id words m s in
+      let reply = reply_to l past id words m in
+      subst (λ ss. AllSent (sent_to n c ss)) (sym (run_sends_are l past id words m h.2 h.0))
+      (to_parts n (early l past id words m) ((id, reply) ∷ []) (late l past id words m)
+      (ending l past id words m)
+      (to_form n c (early l past id words m) (routed_form s.modes (is_on s) (expiry_told t s)))
+      (own_form (id == c) n reply (reply_form id m words past keeps))
+      (to_form n c (late l past id words m)
+      (routed_form (modes_then t s) (is_on s) (later_told l t s)))
+      (to_form n c (ending l past id words m) (end_form (is_quit words) id)))
+  sends_form n (Close id) past h keeps =
+      let live = is_live ((state l past).standing id) in
+      to_form n c (cond live ((id, End) ∷ []) []) (end_form live id)
+  sends_form n (Admit id) past h keeps = none_form
+  sends_form n (Take id max) past h keeps = none_form
 
 before_entry : (l : Limits) (e : Entry) (past : List Entry) → IsLegal l (e ∷ past)
     → IsLegal l past
@@ -161,10 +202,10 @@ before_entry l (Tick m) past h = h.2
 before_entry l (Take id max) past h = h.2
 before_entry l (Close id) past h = h.1
 
-pub sent_form : (l : Limits) (c : ℕ) (past : List Entry) → IsLegal l past
+pub sent_form : (l : Limits) (c : ℕ) (past : List Entry) → IsLegal l past → KeepsOff c past
     → AllSent (sent l c past)
-sent_form l c [] h = none_form
-sent_form l c (e ∷ past) h =
+sent_form l c [] h keeps = none_form
+sent_form l c (e ∷ past) h keeps =
     form_append (sent l c past) (sent_to (length past + 1) c (sends l e (state l past)))
-    (sent_form l c past (before_entry l e past h))
-    (to_form (length past + 1) c (sends l e (state l past)) (sends_form l e past h))
+    (sent_form l c past (before_entry l e past h) (off_tail c e past keeps))
+    (sends_form l c (length past + 1) e past h keeps)

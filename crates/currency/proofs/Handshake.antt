@@ -4,6 +4,7 @@ use Rattle.std.proofs.Common.{◌≡◌, ◌≤◌, ℕ, zero, suc, List, [], �
 use Rattle.std.proofs.Common.{cond, refl, ap, sym, subst, ◌∙◌, arith, Some, None, map, append_assoc}
 use Rattle.std.proofs.Common.{length-append, codes, Bool, Result, ◌⊎◌, inl, inr, Option}
 use Rattle.std.proofs.lemmas.Bool.{eqb-true}
+use Rattle.std.proofs.lemmas.Option.{same_Some}
 use Rattle.std.specs.Prelude.{slice_get, ◌==◌}
 use Rattle.std.specs.List.{flat_map}
 use Rattle.resp_value.specs.Lists.{IsPrefix}
@@ -18,6 +19,7 @@ use Rattle.command_words.specs.HashWords.{hash_reading}
 use Rattle.command_words.specs.KeyWords.{key_reading}
 use Rattle.command_words.specs.ConnectionWords.{connection_reading}
 use Rattle.command_words.specs.ClientWords.{client_reading}
+use Rattle.command_words.specs.TrackingWords.{tracking}
 use Rattle.command_words.specs.Control.{is_control, reads_as_control}
 use Rattle.command_words.specs.Queries.{key_of}
 use Rattle.track_modes.specs.declared.fault.ModeFault.{ModeFault}
@@ -29,10 +31,13 @@ use Rattle.track_modes.specs.Tracked.{caching_fault}
 use Rattle.serial_model.specs.declared.history.Limits.{Limits}
 use Rattle.serial_model.specs.declared.history.Entry.{Entry}
 use Rattle.serial_model.specs.declared.history.Entry.TheVariants.{Admit, Run, Tick, Take, Close}
-use Rattle.serial_model.specs.Modes.{Runner, own_effect, unless_refused}
-use Rattle.serial_model.specs.History.{mode, made_of, runner, runs_of, served, state}
+use Rattle.serial_model.specs.Modes.{OwnEffect, Runner, own_effect, unless_refused}
+use Rattle.serial_model.specs.History.{mode, made_of, runner, runs_of, served, served_reading}
+use Rattle.serial_model.specs.History.{state}
 use Rattle.serial_model.proofs.Ends.{mode_by_own_runs}
 use Rattle.serial_model.proofs.ModeSteps.{mode_other, mode_own}
+use Rattle.shared_cache.specs.declared.log.Caching.{Caching}
+use Rattle.shared_cache.specs.declared.log.Caching.TheVariants.{Default, OptIn, OptOut, Bcast}
 use Rattle.shared_cache.specs.declared.log.ClientMode.{ClientMode}
 use Rattle.shared_cache.specs.declared.log.Wire.TheVariants.{Main}
 use Rattle.shared_cache.specs.declared.log.LogEntry.{LogEntry}
@@ -51,8 +56,11 @@ use Rattle.shared_cache.specs.Log.{tracking as asks_tracking}
 use Rattle.shared_cache.proofs.CommandLaws.{no_control}
 use Rattle.shared_cache.proofs.Every.{every_append}
 use Rattle.shared_cache.proofs.Led.{every_led}
-use Rattle.currency.proofs.TrackingCommand.{asked_tracking, track_made, with_tracking}
-use Rattle.currency.proofs.Lists.{get_front, get_last}
+use Rattle.currency.proofs.TrackingCommand.{asked_tracking, bcast_reads, track_made, track_words}
+use Rattle.currency.proofs.TrackingCommand.{with_tracking}
+use Rattle.currency.proofs.Lists.{get_front, get_last, prefix_more}
+use Rattle.currency.proofs.OffChannel.{KeepsOff, is_of_channel, made_own, off_mode}
+use Rattle.currency.proofs.Runs.{runs_older}
 
 -- ---- the settings of a connection
 
@@ -83,16 +91,17 @@ by_two m (suc (suc n)) s le h = h
 -- ---- the handshake's commands
 
 hello_made : (by : Runner) → by.mode.tracking ≡ Off
-    → Has Three Off (made_of (codes "HELLO" ∷ codes "3" ∷ []) by).mode
-unfolding made_of reading string_reading hash_reading key_reading connection_reading fault_at
+    → Has Three Off (own_effect (served_reading (codes "HELLO" ∷ codes "3" ∷ [])) by).mode
+unfolding reading string_reading hash_reading key_reading connection_reading fault_at
 hello_made by off = record { proto_is = refl; tracking_is = off }
 
 tracking_made : (by : Runner) (m : ClientMode) → Has Three Off by.mode
-    → Has Three (asked_tracking m) (made_of (asks_tracking m []) by).mode
+    → Has Three (asked_tracking m) (own_effect (served_reading (asks_tracking m [])) by).mode
 tracking_made by m h =
-    let is : (made_of (asks_tracking m []) by).mode
+    let is : (own_effect (served_reading (asks_tracking m [])) by).mode
     ≡ record by.mode { tracking = asked_tracking m; caching = false } =
-    ap (λ t. (made_of (asks_tracking m []) (with_tracking by t)).mode) h.tracking_is
+    ap (λ t. (own_effect (served_reading (asks_tracking m [])) (with_tracking by t)).mode)
+    h.tracking_is
     ∙ track_made by m.caching m.noloop in record {
       proto_is = ap (λ (s : ModeState). s.proto) is ∙ h.proto_is;
       tracking_is = ap (λ (s : ModeState). s.tracking) is;
@@ -111,8 +120,8 @@ unfolding fault_at
 own_spent by read h = grind arith
 
 plain_made : (words : List (List ℕ)) (by : Runner) → is_control words ≡ false
-    → (made_of words by).mode ≡ spent_mode by.mode
-unfolding made_of is_control
+    → (own_effect (served_reading words) by).mode ≡ spent_mode by.mode
+unfolding is_control
 plain_made words by h = own_spent by (served (reading words)) (served_no_control (reading words) h)
 
 -- CLIENT CACHING, refused or not, leaves the settings
@@ -127,9 +136,9 @@ module _ (proto : Proto) (t : Tracking) where
       ]
 
   caching_made : (by : Runner) (w : CachingWord) → Has proto t by.mode
-      → Has proto t (made_of (caching_command w).words by).mode
-  unfolding made_of reading string_reading hash_reading key_reading connection_reading
-      client_reading fault_at
+      → Has proto t (own_effect (served_reading (caching_command w).words) by).mode
+  unfolding reading string_reading hash_reading key_reading connection_reading client_reading
+      fault_at
   caching_made by Yes h =
       after_caching by.mode true (caching_fault true by.mode.tracking) h
   caching_made by No h =
@@ -141,13 +150,14 @@ IsBehind words =
     (is_control words ≡ false) ⊎ ((w : CachingWord) × (words ≡ (caching_command w).words))
 
 behind_made : (proto : Proto) (t : Tracking) (by : Runner) (words : List (List ℕ)) → IsBehind words
-    → Has proto t by.mode → Has proto t (made_of words by).mode
+    → Has proto t by.mode → Has proto t (own_effect (served_reading words) by).mode
 behind_made proto t by words (inl plain) h = record {
   proto_is = ap (λ (m : ModeState). m.proto) (plain_made words by plain) ∙ h.proto_is;
   tracking_is = ap (λ (m : ModeState). m.tracking) (plain_made words by plain) ∙ h.tracking_is;
 }
 behind_made proto t by words (inr c) h =
-    subst (λ ws. Has proto t (made_of ws by).mode) (sym c.1) (caching_made proto t by c.0 h)
+    subst (λ ws. Has proto t (own_effect (served_reading ws) by).mode) (sym c.1)
+    (caching_made proto t by c.0 h)
 
 -- ---- what is sent behind the handshake
 
@@ -193,6 +203,39 @@ behind_at (c ∷ cs) zero words a b e =
     let same : c.words ≡ words = cc in subst IsBehind same (behind_one c a.0 b.0)
 behind_at (c ∷ cs) (suc k) words a b e = behind_at cs k words a.1 b.1 e
 
+-- ---- no command of a client is of the channel of invalidations
+
+hello_off : is_of_channel (reading (codes "HELLO" ∷ codes "3" ∷ [])) ≡ false
+unfolding reading string_reading hash_reading key_reading connection_reading
+hello_off = refl
+
+tracking_off : (c : Caching) (noloop : Bool)
+    → is_of_channel (reading (track_words c noloop)) ≡ false
+unfolding reading string_reading hash_reading key_reading connection_reading client_reading tracking
+tracking_off Default true = refl
+tracking_off Default false = refl
+tracking_off OptIn true = refl
+tracking_off OptIn false = refl
+tracking_off OptOut true = refl
+tracking_off OptOut false = refl
+tracking_off (Bcast prefixes) noloop = ap is_of_channel (bcast_reads prefixes noloop)
+
+caching_off : (w : CachingWord) → is_of_channel (reading (caching_command w).words) ≡ false
+unfolding reading string_reading hash_reading key_reading connection_reading client_reading
+caching_off Yes = refl
+caching_off No = refl
+
+no_control_off : (read : Result Command WordFault) → reads_as_control read ≡ false
+    → is_of_channel read ≡ false
+no_control_off read h = grind arith
+
+behind_off : (words : List (List ℕ)) → IsBehind words → is_of_channel (reading words) ≡ false
+unfolding is_control
+behind_off words (inl plain) = no_control_off (reading words) plain
+behind_off words (inr c) = ap (λ ws. is_of_channel (reading ws)) c.1 ∙ caching_off c.0
+
+-- ---- the commands of a client on one link
+
 module _ (s : Setup) (link : IsOneLink s.mode) where
   -- on one link the handshake is HELLO 3 and the tracking command
   pub plain_commands : (log : List LogEntry)
@@ -213,22 +256,60 @@ module _ (s : Setup) (link : IsOneLink s.mode) where
       behind_at (sent s log) k words (sent_own s log) (no_control s log h)
       (sym (ap (λ l. slice_get l (suc (suc k))) (plain_commands log)) ∙ e)
 
-  next_settings : (log : List LogEntry) → LegalLog s log → (by : Runner) (n : ℕ)
+  -- none of these commands is of the channel of invalidations
+  off_channel : (log : List LogEntry) → LegalLog s log → (n : ℕ) (words : List (List ℕ))
+      → slice_get (commands s Main log) n ≡ Some words → is_of_channel (reading words) ≡ false
+  off_channel log h zero words e =
+      let first : Some (codes "HELLO" ∷ codes "3" ∷ []) ≡ Some words
+      = sym (ap (λ l. slice_get l 0) (plain_commands log)) ∙ e in
+      ap (λ ws. is_of_channel (reading ws))
+      (sym (same_Some (codes "HELLO" ∷ codes "3" ∷ []) words first)) ∙ hello_off
+  off_channel log h (suc zero) words e =
+      let second : Some (asks_tracking s.mode []) ≡ Some words
+      = sym (ap (λ l. slice_get l 1) (plain_commands log)) ∙ e in
+      ap (λ ws. is_of_channel (reading ws)) (sym (same_Some (asks_tracking s.mode []) words second))
+      ∙ tracking_off s.mode.caching s.mode.noloop
+  off_channel log h (suc (suc k)) words e = behind_off words (is_behind log h k words e)
+
+  -- a connection that runs them keeps off it
+  pub keeps_off : (log : List LogEntry) → LegalLog s log → (c : ℕ) (past : List Entry)
+      → IsPrefix (runs_of c past) (commands s Main log) → KeepsOff c past
+  keeps_off log h c past p id m words up o own =
+      let n = length (runs_of c up) in
+      let ran = prefix_more (runs_of c (Run id words m ∷ up)) (runs_of c past)
+      (commands s Main log) (runs_older c (Run id words m ∷ up) past o) p in
+      off_channel log h n words
+      (ap (λ cs. slice_get cs n) (sym ran.1)
+      ∙ get_front (runs_of c (Run id words m ∷ up)) ran.0 n words
+      (ap (λ b. slice_get (cond b (runs_of c up ++ words ∷ []) (runs_of c up)) n) own
+      ∙ get_last (runs_of c up) words))
+
+  next_own : (log : List LogEntry) → LegalLog s log → (by : Runner) (n : ℕ)
       (words : List (List ℕ)) → slice_get (commands s Main log) n ≡ Some words
-      → HasBy s.mode n by.mode → HasBy s.mode (suc n) (made_of words by).mode
-  next_settings log h by zero words e has =
+      → HasBy s.mode n by.mode
+      → HasBy s.mode (suc n) (own_effect (served_reading words) by).mode
+  next_own log h by zero words e has =
       let first : Some (codes "HELLO" ∷ codes "3" ∷ []) ≡ Some words
       = sym (ap (λ l. slice_get l 0) (plain_commands log)) ∙ e in
       let same : codes "HELLO" ∷ codes "3" ∷ [] ≡ words = cc in
-      subst (λ ws. Has Three Off (made_of ws by).mode) same (hello_made by has.tracking_is)
-  next_settings log h by (suc zero) words e has =
+      subst (λ ws. Has Three Off (own_effect (served_reading ws) by).mode) same
+      (hello_made by has.tracking_is)
+  next_own log h by (suc zero) words e has =
       let second : Some (asks_tracking s.mode []) ≡ Some words
       = sym (ap (λ l. slice_get l 1) (plain_commands log)) ∙ e in
       let same : asks_tracking s.mode [] ≡ words = cc in
-      subst (λ ws. Has Three (asked_tracking s.mode) (made_of ws by).mode) same
+      subst (λ ws. Has Three (asked_tracking s.mode) (own_effect (served_reading ws) by).mode) same
       (tracking_made by s.mode has)
-  next_settings log h by (suc (suc k)) words e has =
+  next_own log h by (suc (suc k)) words e has =
       behind_made Three (asked_tracking s.mode) by words (is_behind log h k words e) has
+
+  next_settings : (log : List LogEntry) → LegalLog s log → (by : Runner) (n : ℕ)
+      (words : List (List ℕ)) → by.mode.subscribed ≡ false
+      → slice_get (commands s Main log) n ≡ Some words
+      → HasBy s.mode n by.mode → HasBy s.mode (suc n) (made_of words by).mode
+  next_settings log h by n words off e has =
+      subst (λ (o : OwnEffect). HasBy s.mode (suc n) o.mode) (sym (made_own by words off))
+      (next_own log h by n words e has)
 
   first_has : (l : Limits) (c : ℕ) → HasBy s.mode 0 (mode l c [])
   unfolding state
@@ -263,7 +344,10 @@ module _ (s : Setup) (link : IsOneLink s.mode) where
             let at : slice_get (commands s Main log) n ≡ Some words =
             ap (λ cs. slice_get cs n) (sym p.1)
             ∙ get_front (runs_of c up ++ words ∷ []) p.0 n words (get_last (runs_of c up) words) in
-            let by = runner l up id words in
+            let by = runner l up id words m in
+            let off : by.mode.subscribed ≡ false =
+            ap (λ d. (mode l d up).subscribed) (eqb-true id c own)
+            ∙ off_mode l c up (keeps_off log h c up before) in
             let has : HasBy s.mode n by.mode =
             subst (λ d. HasBy s.mode n (mode l d up)) (sym (eqb-true id c own))
             (asked l c log h up before) in
@@ -271,7 +355,7 @@ module _ (s : Setup) (link : IsOneLink s.mode) where
             omega (arith, length-append (runs_of c up) (words ∷ [])) in
             subst (λ k. HasBy s.mode k (mode l c (Run id words m ∷ up))) count
             (subst (HasBy s.mode (suc n)) (sym (mode_own l c id m words up own))
-            (next_settings log h by n words at has))
+            (next_settings log h by n words off at has))
         | false ↦ λ own p.
             subst (HasBy s.mode (length (runs_of c up))) (sym (mode_other l c id m words up own))
             (asked l c log h up p)

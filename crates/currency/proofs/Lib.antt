@@ -4,6 +4,8 @@ pub mod Runs
 pub mod Numbered
 pub mod Sent
 pub mod TrackingCommand
+pub mod OffChannel
+pub mod Routes
 pub mod Covers
 pub mod Handshake
 pub mod PushReplies

@@ -6,7 +6,7 @@ use Rattle.std.proofs.Common.{append-nil, length-append, Bool, Option, Result, �
 use Rattle.std.proofs.lemmas.Bool.{and_parts}
 use Rattle.std.proofs.lemmas.Option.{same_Some}
 use Rattle.std.specs.List.{list_any, starts_with}
-use Rattle.std.specs.Prelude.{slice_get, ◌==◌, is_some, nat_eq}
+use Rattle.std.specs.Prelude.{slice_get, ◌==◌, ◌&&◌, is_some, nat_eq}
 use Rattle.resp_value.specs.Lists.{IsPrefix}
 use Rattle.resp_value.specs.declared.value.Proto.TheVariants.{Three}
 use Rattle.command_words.specs.declared.command.Command.{Command}
@@ -20,6 +20,7 @@ use Rattle.command_words.specs.ClientWords.{client_reading}
 use Rattle.command_words.specs.TrackingWords.{tracking}
 use Rattle.command_words.specs.Control.{is_control, reads_as_control}
 use Rattle.command_words.specs.Queries.{key_of}
+use Rattle.track_modes.specs.Commands.{is_two}
 use Rattle.track_modes.specs.ModeState.{ModeState, prefixes_in, prefixes_of, remembers_by}
 use Rattle.track_modes.specs.ModeState.{remembers_in}
 use Rattle.track_modes.specs.Tracked.{caching_fault}
@@ -116,10 +117,12 @@ tracking_marks_none OptOut false m = refl
 tracking_marks_none (Bcast prefixes) noloop m =
     ap (λ read. sets_caching read m) (bcast_reads prefixes noloop)
 
-yes_marks : (m : ModeState) → caching_fault true m.tracking ≡ None
+yes_marks : (m : ModeState) → m.proto ≡ Three → caching_fault true m.tracking ≡ None
     → sets_caching (reading (caching_command Yes).words) m ≡ true
 unfolding reading string_reading hash_reading key_reading connection_reading client_reading
-yes_marks m h = ap (λ f. not (is_some f)) h
+yes_marks m third h =
+    ap (λ p. not (is_two p && m.subscribed) && not (is_some (caching_fault true m.tracking))) third
+    ∙ ap (λ f. not (is_some f)) h
 
 -- ---- the last command that was sent is a caller's
 
@@ -295,7 +298,7 @@ module _ (s : Setup) (link : IsOneLink s.mode) (log : List LogEntry) (legal : Le
         (omega (arith, place_before, four)) has in
         mark_is
         ∙ ap (λ ws. sets_caching (reading ws) (mode l c before.sooner)) words
-        ∙ yes_marks (mode l c before.sooner)
+        ∙ yes_marks (mode l c before.sooner) settings.proto_is
         (ap (caching_fault true)
         (settings.tracking_is ∙ ap (λ k. asked_tracking (record s.mode { caching = k })) opt))
 

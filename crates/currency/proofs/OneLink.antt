@@ -1,7 +1,7 @@
 -- One link is an instance of the theorem over any wires.
 use Rattle.std.proofs.Common.{◌≡◌, ◌+◌, ◌-◌, ◌<◌, ◌⊎◌, ℕ, suc, List, [], ◌∷◌, length, true}
 use Rattle.std.proofs.Common.{false, refl, ap, sym, ◌∙◌, arith, Some, None, subst, inl, inr, drop}
-use Rattle.std.specs.Prelude.{slice_get}
+use Rattle.std.specs.Prelude.{slice_get, ◌&&◌}
 use Rattle.std.specs.List.{filter}
 use Rattle.std.proofs.lemmas.List.{length-reverse}
 use Rattle.std.proofs.lemmas.Option.{same_Some}
@@ -14,14 +14,16 @@ use Rattle.command_words.specs.Effects.{answer}
 use Rattle.command_words.specs.Laws.{SignalsAreWritten}
 use Rattle.command_words.specs.Queries.{key_of, reads_as_cacheable, writes}
 use Rattle.command_words.specs.Words.{reading}
+use Rattle.track_modes.specs.Commands.{is_two}
 use Rattle.track_modes.specs.ModeState as track
+use Rattle.track_modes.specs.ModeState.{redirect_of}
 use Rattle.serial_model.specs.declared.history.Limits.{Limits}
 use Rattle.serial_model.specs.declared.history.Entry.{Entry}
 use Rattle.serial_model.specs.declared.history.Entry.TheVariants.{Run}
 use Rattle.serial_model.specs.History.{IsLegal, Message, Sending, keyspace, mode, run_entries}
 use Rattle.serial_model.specs.History.{runs_of, runs_on, sent, served_reading}
 use Rattle.serial_model.specs.Laws.{BeforeTheReply, ChangeIsSignalled, RegisteredIsMode, is_due}
-use Rattle.serial_model.specs.Laws.{is_told}
+use Rattle.serial_model.specs.Laws.{IsDirect, is_told}
 use Rattle.serial_model.specs.Tracking.{push_of}
 use Rattle.shared_cache.specs.ClientFields.{IsOneLink}
 use Rattle.shared_cache.specs.Held.{commands, held}
@@ -46,21 +48,22 @@ use Rattle.wire_currency.proofs.Replies.{run_is_command}
 use Rattle.currency.specs.Links.{Client, HasWire, IsGot, Meet, is_reply_sent, is_single}
 use Rattle.currency.specs.Links.{run_of, traffic_of, up_to, wires_of}
 use Rattle.currency.specs.Current.{Currency, HasPoint, IsCurrent, fetch_of}
-use Rattle.currency.proofs.Accepted.{not_refused_of}
+use Rattle.currency.proofs.Accepted.{laws, not_refused_of}
 use Rattle.currency.proofs.Ahead.{told_ahead}
 use Rattle.currency.proofs.Asked.{asked_query, query_reads, query_served}
-use Rattle.currency.proofs.EntryLaws.{Read, entry_laws_of, told_runs}
+use Rattle.currency.proofs.EntryLaws.{Read, entry_laws_of}
 use Rattle.currency.proofs.Handshake.{Has}
 use Rattle.currency.proofs.Lists.{every_at, get_drop}
 use Rattle.currency.proofs.Marks.{fetch_told_of}
+use Rattle.currency.proofs.OffChannel.{KeepsOff, off_mode, off_older}
 use Rattle.currency.proofs.Placed.{reply_place}
 use Rattle.currency.proofs.Runs.{Older, older_legal, older_tail, older_up_to, ran_at}
 use Rattle.currency.proofs.Runs.{up_to_older}
 use Rattle.currency.proofs.Sent.{Told, lands, sent_older}
-use Rattle.currency.proofs.SentLaws.{sent_laws_of}
-use Rattle.currency.proofs.Settled.{before_then, number_least, r, ran_by_then, ran_older, settled}
+use Rattle.currency.proofs.Settled.{before_then, number_least, off_main, r, ran_by_then}
+use Rattle.currency.proofs.Settled.{ran_older, settled}
 use Rattle.currency.proofs.Since.{gots_prefix, place_later, spared_since}
-use Rattle.currency.proofs.TrackingCommand.{asked_tracking, refusal, tracked_by}
+use Rattle.currency.proofs.TrackingCommand.{asked_direct, asked_tracking, refusal, tracked_by}
 use Rattle.currency.proofs.Voids.{voids}
 use Rattle.currency.proofs.Wires.{has_main, only_main}
 
@@ -141,13 +144,21 @@ module _ (l : Limits) (x : Client) (past : List Entry) (log : List LogEntry)
 abbrev pub AsAsked : Limits → Client → List Entry → Type 0
 AsAsked l x up = Has Three (asked_tracking x.setup.mode) (mode l (x.id Main) up)
 
+-- its messages are sent to it
+direct : (l : Limits) (x : Client) (up : List Entry) → AsAsked l x up
+    → IsDirect (mode l (x.id Main) up)
+direct l x up good = record {
+  proto = good.proto_is;
+  own = ap redirect_of good.tracking_is ∙ asked_direct x.setup.mode;
+}
+
 -- where its command is not refused, that tracks
 asked_is_on : (m : ClientMode) → refusal m.caching ≡ None → track.is_on (asked_tracking m) ≡ true
 asked_is_on m accepted = ap (λ r. track.is_on (tracked_by r m.caching m.noloop)) accepted
 
 module _ (l : Limits) (x : Client) (past : List Entry) (h : CacheEntry)
     (cacheable : reads_as_cacheable (reading h.query) ≡ true) (legal : IsLegal l past)
-    (accepted : refusal x.setup.mode.caching ≡ None) where
+    (keeps : KeepsOff (x.id Main) past) (accepted : refusal x.setup.mode.caching ≡ None) where
   -- a push of the key is got as one
   told_on : (r : ℕ) (up : List Entry) → Older up past
       → (t : Told (x.id Main) l up r (key_of h.query))
@@ -170,7 +181,7 @@ module _ (l : Limits) (x : Client) (past : List Entry) (h : CacheEntry)
     told =
         told_on (length up + 1) (e ∷ up) o
         (lands (x.id Main) l e up (key_of h.query) on due
-        before.proto_is after.proto_is);
+        (direct l x up before) (direct l x (e ∷ up) after));
   }
 
   ahead_or_same : (first : BeforeTheReply) → (r j i : ℕ) (ws : List (List ℕ)) (s : ℕ × Sending)
@@ -209,12 +220,12 @@ module _ (l : Limits) (x : Client) (past : List Entry) (h : CacheEntry)
         | inr early ↦
             let run_legal = older_legal l t.older.newer (run ∷ t.up)
             (subst (IsLegal l) (sym t.older.is) legal) in
-            let a = told_ahead c l past t.up t.id t.words t.moment t.older run_legal.0 k early
-            (told_runs l t.up c k (ap (λ u. is_told l u c k) (sym up_is) ∙ told))
-            (ap (λ u. track.is_on (mode l c u).tracking) (sym up_is)
-            ∙ ap track.is_on good.tracking_is ∙ asked_is_on x.setup.mode accepted)
-            (ap (λ u. (mode l c u).proto) (sym up_is) ∙ good.proto_is) i s
-            sent_there (number ∙ sym n) is_reply in
+            let tail = older_tail run t.up past t.older in
+            let good_up = subst (AsAsked l x) up_is good in
+            let a = told_ahead c l past t.up t.id t.words t.moment t.older run_legal.2 run_legal.0
+            (off_mode l c t.up (off_older c t.up past tail keeps)) k early
+            (ap track.is_on good_up.tracking_is ∙ asked_is_on x.setup.mode accepted)
+            (direct l x t.up good_up) i s sent_there (number ∙ sym n) is_reply in
             inr (subst (λ m. (t : ToldOn IsGot (traffic_of l x past) (fetch_of l x past h) Main m)
             × (t.place < i)) n (told_on (length t.up + 1) (run ∷ t.up) t.older a.0, a.1))
       ]
@@ -226,6 +237,9 @@ module _ (l : Limits) (x : Client) (past : List Entry) (log : List LogEntry)
     (meet : Meet l x past log) (h : CacheEntry) (is : IsFetch x.setup log h)
     (serves : reads_as_cacheable (served_reading h.query) ≡ true)
     (cacheable : reads_as_cacheable (reading h.query) ≡ true) where
+  keeps : KeepsOff (x.id Main) past
+  keeps = off_main l x past log link legal legal_log meet
+
   accepted : refusal x.setup.mode.caching ≡ None
   accepted = not_refused_of l x past log link legal legal_log meet h.number h.query is.fetch
 
@@ -271,18 +285,20 @@ module _ (l : Limits) (x : Client) (past : List Entry) (log : List LogEntry)
   both law first written registered =
       theorem.currency IsGot (λ n. AsAsked l x (up_to n past)) (Read l x past Main h (AsAsked l x))
       (traffic_of l x past) (fetch_of l x past h) log meet
-      (log_laws l x past log link legal_log h is) (sent_laws_of l x past legal)
+      (log_laws l x past log link legal_log h is)
+      (laws l x past log link legal legal_log meet)
       (λ at ran. (
         entry_laws_of l x past Main (wires_of x.setup.mode.shape) (has_main x.setup.mode.shape)
-            legal h serves cacheable (AsAsked l x)
+            legal keeps h serves cacheable (AsAsked l x)
             (asked_tracking x.setup.mode) (asked_is_on x.setup.mode accepted)
             (λ up good. good.tracking_is) (λ up good. good.proto_is ∙ sym link.proto)
+            (λ up good. ap (λ p. is_two p && (mode l (x.id Main) up).subscribed) good.proto_is)
             (λ e up o on due before after lives.
-            due_lands l x past h cacheable legal accepted e up o on due before after)
+            due_lands l x past h cacheable legal keeps accepted e up o on due before after)
             law written registered at
             (λ alone r j i ws s le lt good told e there unwrote at_place number is_reply.
-            ahead_or_same l x past h cacheable legal accepted first r j i ws s good told e there
-            unwrote at_place number is_reply),
+            ahead_or_same l x past h cacheable legal keeps accepted first r j i ws s good told e
+            there unwrote at_place number is_reply),
         handshake at ran,
       ))
       h.value replied_at
@@ -297,8 +313,8 @@ module _ (l : Limits) (x : Client) (past : List Entry) (log : List LogEntry)
       let n = t.at in
       let number : at ≡ length (run ∷ t.up) = omega (arith, n) in
       let asked = run_is_command IsGot (traffic_of l x past) log meet
-      (sent_laws_of l x past legal) Main (has_main x.setup.mode.shape) (h.number - 1) t.words
-      t.words_are in
+      (laws l x past log link legal legal_log meet) Main (has_main x.setup.mode.shape)
+      (h.number - 1) t.words t.words_are in
       let words : t.words ≡ h.query =
       same_Some t.words h.query
       (sym asked

@@ -27,6 +27,12 @@ older_tail e up past o = record {
   is = append_assoc o.newer (e ∷ []) up ∙ o.is;
 }
 
+pub older_more : (sooner up past : List Entry) → Older sooner up → Older up past → Older sooner past
+older_more sooner up past a b = record {
+  newer = b.newer ++ a.newer;
+  is = append_assoc b.newer a.newer sooner ∙ ap (λ l. b.newer ++ l) a.is ∙ b.is;
+}
+
 -- of two older parts the shorter is one of the longer
 within : (na nb a b : List Entry) → na ++ a ≡ nb ++ b → length nb ≤ length na → Older a b
 within na [] a b e le = record { newer = na; is = e }

@@ -6,13 +6,13 @@ use Rattle.std.specs.Prelude.{slice_get, ◌==◌, Option}
 use Rattle.std.proofs.lemmas.Option.{slice_get_within}
 use Rattle.resp_value.specs.Lists.{IsPrefix}
 use Rattle.resp_value.specs.declared.value.Proto.TheVariants.{Three}
+use Rattle.track_modes.specs.ModeState.{ModeState}
 use Rattle.serial_model.specs.declared.history.Limits.{Limits}
 use Rattle.serial_model.specs.declared.history.Entry.{Entry}
 use Rattle.serial_model.specs.Tracking.{Invalidation, push_of, names_key}
-use Rattle.serial_model.specs.Actions.{Sending, Message, End}
-use Rattle.serial_model.specs.Plain.{pushed, pushes}
+use Rattle.serial_model.specs.Actions.{Sending, Message, End, routed, way}
 use Rattle.serial_model.specs.History.{sends, sent_to, sent, mode, runs_on, state}
-use Rattle.serial_model.specs.Laws.{is_due, has_end}
+use Rattle.serial_model.specs.Laws.{IsDirect, is_due, has_end}
 use Rattle.serial_model.proofs.DueLaws.{due_is_pushed}
 use Rattle.currency.proofs.Lists.{get_front, get_behind, get_middle, get_parts, Behind}
 use Rattle.currency.proofs.Lists.{get_given}
@@ -124,18 +124,20 @@ module _ (c : ℕ) where
       pub there : slice_get (sent l c past) place ≡ Some (n, Message Three (push_of keys))
       pub names : names_key keys key ≡ true
 
-    -- whom a list of pushes tells is sent one
-    pub pushes_at : (test : ℕ → Bool) (told : List Invalidation) (k : ℕ) (i : Invalidation)
-        → slice_get told k ≡ Some i → test i.to ≡ true
-        → (n : ℕ) × (slice_get (pushes test told) n ≡ Some (i.to, Message Three (push_of i.keys)))
-    pushes_at test told k i e takes =
-        get_given (pushed test) told k i (i.to, Message Three (push_of i.keys)) 0 e
-        (ap (λ b. slice_get (cond b ((i.to, Message Three (push_of i.keys)) ∷ []) []) 0) takes)
+    -- whom a group tells directly is sent a push
+    pub routed_at : (modes : ℕ → ModeState) (on : ℕ → Bool) (told : List Invalidation) (k : ℕ)
+        (i : Invalidation) → slice_get told k ≡ Some i
+        → way modes on i ≡ (i.to, Message Three (push_of i.keys)) ∷ []
+        → (n : ℕ)
+        × (slice_get (routed modes on told) n ≡ Some (i.to, Message Three (push_of i.keys)))
+    routed_at modes on told k i e direct =
+        get_given (way modes on) told k i (i.to, Message Three (push_of i.keys)) 0 e
+        (ap (λ ss. slice_get ss 0) direct)
 
-    -- a connection of the third protocol that an entry tells of a key is sent it there
+    -- a connection that is sent its messages itself is sent a push of what an entry tells it of
     pub lands : (x : Entry) (up : List Entry) (key : List ℕ) → runs_on l up c ≡ true
-        → is_due l x up c key ≡ true → (mode l c up).proto ≡ Three
-        → (mode l c (x ∷ up)).proto ≡ Three → Told (x ∷ up) (length up + 1) key
+        → is_due l x up c key ≡ true → IsDirect (mode l c up) → IsDirect (mode l c (x ∷ up))
+        → Told (x ∷ up) (length up + 1) key
     lands x up key on due before after =
         let n = length up + 1 in
         let h = due_is_pushed l x up c key on before after due in

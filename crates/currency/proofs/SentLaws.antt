@@ -8,8 +8,9 @@ use Rattle.serial_model.specs.History.{End, IsLegal, Sending, has_ended, sent}
 use Rattle.serial_model.proofs.Ends.{end_is_sent}
 use Rattle.shared_cache.specs.declared.log.Wire.{Wire}
 use Rattle.wire_currency.specs.Traffic.{EndSent, SentInOrder, SentLaws}
-use Rattle.currency.specs.Links.{Client, IsGot, traffic_of, up_to}
+use Rattle.currency.specs.Links.{Client, HasWire, IsGot, traffic_of, up_to}
 use Rattle.currency.proofs.Gots.{AllSent, IsSent, same_kind, sent_form}
+use Rattle.currency.proofs.OffChannel.{KeepsOff}
 use Rattle.currency.proofs.Placed.{reply_at}
 use Rattle.currency.proofs.Replies.{replies_are_of_runs}
 use Rattle.currency.proofs.Runs.{in_order, runs_count, up_to_older}
@@ -47,17 +48,21 @@ module _ (l : Limits) (x : Client) (past : List Entry) where
     sent_order = λ w i. sent_order (x.id w) l past;
   }
 
-  pub sent_laws_of : IsLegal l past → SentLaws IsGot (traffic_of l x past)
-  sent_laws_of legal = record {
+  -- where each of the client's connections keeps off the channel of invalidations
+  pub sent_laws_of : IsLegal l past
+      → ((w : Wire) → HasWire x.setup.mode.shape w → KeepsOff (x.id w) past)
+      → SentLaws IsGot (traffic_of l x past)
+  sent_laws_of legal keeps = record {
     in_order = sent_in_order;
     runs_order = λ w i. in_order (x.id w) past;
     runs_count = λ w i. runs_count (x.id w) past;
     replies_of_runs =
         λ w i j s e. let p = reply_at l (x.id w) past j s
-        (ap (λ ss. slice_get ss j) (sym (replies_are_of_runs l (x.id w) past legal)) ∙ e) in
+        (ap (λ ss. slice_get ss j)
+        (sym (replies_are_of_runs l (x.id w) past legal (keeps w i))) ∙ e) in
         p.entry ∙ ap Some (sym p.number);
     reply_kind =
         λ w i j s v e got. same_kind v s.1 (form_at (sent l (x.id w) past) j s
-        (sent_form l (x.id w) past legal) e) got;
+        (sent_form l (x.id w) past legal (keeps w i)) e) got;
     end_sent = λ w i. wire_end w;
   }

@@ -1,7 +1,7 @@
 -- From the run of an open fetch on its connection has the protocol and the tracking that were asked
 -- for.
 use Rattle.std.proofs.Common.{◌≡◌, ◌+◌, ◌-◌, ◌≤◌, ℕ, List, ◌∷◌, length}
-use Rattle.std.proofs.Common.{ap, arith, Some, length-append}
+use Rattle.std.proofs.Common.{ap, arith, Some, length-append, subst}
 use Rattle.std.proofs.lemmas.Bool.{eqb-true}
 use Rattle.resp_value.specs.Lists.{IsPrefix}
 use Rattle.resp_value.specs.declared.value.Proto.TheVariants.{Three}
@@ -10,6 +10,7 @@ use Rattle.serial_model.specs.declared.history.Entry.{Entry}
 use Rattle.serial_model.specs.declared.history.Entry.TheVariants.{Run}
 use Rattle.serial_model.specs.History.{runs_of, mode}
 use Rattle.serial_model.specs.History.{IsLegal}
+use Rattle.shared_cache.specs.declared.log.Wire.{Wire}
 use Rattle.shared_cache.specs.declared.log.Wire.TheVariants.{Main}
 use Rattle.shared_cache.specs.declared.log.LogEntry.{LogEntry}
 use Rattle.command_words.specs.Queries.{key_of}
@@ -19,13 +20,14 @@ use Rattle.shared_cache.proofs.Led.{led_some}
 use Rattle.shared_cache.specs.ClientFields.{IsOneLink}
 use Rattle.shared_cache.specs.Laws.{LegalLog}
 use Rattle.shared_cache.proofs.FetchLaws.{open_was_sent}
-use Rattle.currency.specs.Links.{Client, Meet, run_of}
-use Rattle.currency.proofs.Wires.{has_main}
+use Rattle.currency.specs.Links.{Client, HasWire, Meet, run_of}
+use Rattle.currency.proofs.Wires.{has_main, only_main}
 use Rattle.currency.proofs.Runs.{Older, older_tail, older_within}
 use Rattle.currency.proofs.Runs.{runs_older, RanAt, ran_at}
 use Rattle.currency.proofs.TrackingCommand.{asked_tracking}
-use Rattle.currency.proofs.Handshake.{Has, asked, by_two}
+use Rattle.currency.proofs.Handshake.{Has, asked, by_two, keeps_off}
 use Rattle.currency.proofs.Lists.{prefix_more}
+use Rattle.currency.proofs.OffChannel.{KeepsOff}
 
 prefix_le : {A : Type 0} (xs ys : List A) → IsPrefix xs ys → length xs ≤ length ys
 prefix_le xs ys p = omega (arith, length-append xs p.0, ap length p.1)
@@ -42,6 +44,16 @@ module _ (l : Limits) (x : Client) (past : List Entry) (log : List LogEntry)
   ran_older up o =
       prefix_more (runs_of (x.id Main) up) (runs_of (x.id Main) past) (commands x.setup Main log)
       (runs_older (x.id Main) up past o) (meet.ran Main (has_main x.setup.mode.shape))
+
+  -- each of the client's connections keeps off the channel of invalidations
+  pub off_main : KeepsOff (x.id Main) past
+  off_main =
+      keeps_off x.setup link log legal_log (x.id Main) past
+      (meet.ran Main (has_main x.setup.mode.shape))
+
+  pub all_off : (w : Wire) → HasWire x.setup.mode.shape w → KeepsOff (x.id w) past
+  all_off w i =
+      subst (λ u. KeepsOff (x.id u) past) (only_main x.setup.mode.shape link.shape w i) off_main
 
   module _ (n p : ℕ) (q : List (List ℕ)) (fetch : open_fetch x.setup log n ≡ Some q)
       (run : run_of (x.id Main) past n ≡ Some p) where

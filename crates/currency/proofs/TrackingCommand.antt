@@ -21,11 +21,11 @@ use Rattle.track_modes.specs.declared.tracking.TrackMode.TheVariants as track
 use Rattle.track_modes.specs.declared.tracking.Tracking.{Tracking}
 use Rattle.track_modes.specs.declared.tracking.Tracking.TheVariants.{Off, On}
 use Rattle.track_modes.specs.Commands.{fault_at}
-use Rattle.track_modes.specs.ModeState.{ModeState}
+use Rattle.track_modes.specs.ModeState.{ModeState, redirect_of}
 use Rattle.track_modes.specs.PrefixLists.{overlapped, registered}
 use Rattle.track_modes.specs.Tracked.{has_prefix, on_fault}
 use Rattle.serial_model.specs.Modes.{Runner, own_effect, unless_refused}
-use Rattle.serial_model.specs.History.{made_of, served}
+use Rattle.serial_model.specs.History.{served, served_reading}
 use Rattle.shared_cache.specs.declared.log.Caching.{Caching}
 use Rattle.shared_cache.specs.declared.log.Caching.TheVariants.{Default, OptIn, OptOut, Bcast}
 use Rattle.shared_cache.specs.declared.log.ClientMode.{ClientMode}
@@ -112,9 +112,9 @@ bcast_leaves by ps noloop None = refl
 bcast_leaves by ps noloop (Some prefix) = refl
 
 pub track_made : (by : Runner) (c : Caching) (noloop : Bool)
-    → (made_of (track_words c noloop) (with_tracking by Off)).mode
+    → (own_effect (served_reading (track_words c noloop)) (with_tracking by Off)).mode
     ≡ record by.mode { tracking = tracked_by (refusal c) c noloop; caching = false }
-unfolding made_of reading string_reading hash_reading key_reading connection_reading client_reading
+unfolding reading string_reading hash_reading key_reading connection_reading client_reading
     tracking fault_at
 track_made by Default true = refl
 track_made by Default false = refl
@@ -127,3 +127,11 @@ track_made by (Bcast ps) noloop =
     ∙ ap (λ f. (unless_refused f (ClientTracking (bcast_options ps noloop))
     (record by.mode { tracking = Off })).mode) (bcast_fault ps noloop by.target_exists)
     ∙ bcast_leaves by.mode ps noloop (overlapped [] ps)
+
+-- it redirects messages to no other connection
+pub asked_direct : (m : ClientMode) → redirect_of (asked_tracking m) ≡ None
+asked_direct m = by (refusal m.caching)
+  where
+    by : (r : Option (List ℕ)) → redirect_of (tracked_by r m.caching m.noloop) ≡ None
+    by None = refl
+    by (Some prefix) = refl

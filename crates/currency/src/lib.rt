@@ -8,8 +8,8 @@ ghost use Rattle.currency.specs.Current.{Currency};
 use command_words::law_signals_are_written;
 use serial_model::{law_before_the_reply, law_change_is_signalled, law_registered_is_mode};
 
-/// For every legal history and every legal log that meet: each held entry is current, and a hit on
-/// it has its point.
+/// For every legal history and every legal log that meet, whatever other connections do: each held
+/// entry is current, and a hit on it has its point.
 pub fn law_currency()
     ensures { Currency }
 {

@@ -1,17 +1,21 @@
 -- Each message that is sent is well-formed.
 use Rattle.std.proofs.Common.{◌≡◌, ℕ, List, [], ◌∷◌, ◌++◌, Bool, true, false, cond, Result, Ok, Err}
-use Rattle.std.proofs.Common.{Option, None, Some, refl, sym, ap, subst, ◌∙◌, map, arith, codes}
+use Rattle.std.proofs.Common.{Option, None, Some, refl, map, arith, codes}
+use Rattle.std.specs.Option.{option_map_or}
+use Rattle.std.specs.Str.{bytes_eq}
 use Rattle.resp_value.specs.declared.value.Proto.{Proto}
 use Rattle.resp_value.specs.Tree.{blob, trees_of}
 use Rattle.resp_value.specs.declared.value.Value.{Value}
-use Rattle.resp_value.specs.declared.value.Value.TheVariants.{Map}
+use Rattle.resp_value.specs.declared.value.Value.TheVariants.{Array, Blob, Error, Map, Simple}
 use Rattle.command_words.specs.declared.command.Command.{Command}
 use Rattle.command_words.specs.declared.command.Command.TheVariants.{Ping, Echo, Hello, Reset, Quit}
 use Rattle.command_words.specs.declared.command.Command.TheVariants.{ClientId, ClientTracking}
 use Rattle.command_words.specs.declared.command.Command.TheVariants.{ClientCaching, ClientGetRedir}
 use Rattle.command_words.specs.declared.command.Command.TheVariants.{ClientTrackingInfo}
+use Rattle.command_words.specs.declared.command.Command.TheVariants.{Subscribe, Unsubscribe}
 use Rattle.command_words.specs.declared.command.WordFault.{WordFault}
 use Rattle.command_words.specs.declared.command.WordFault.TheVariants.{Arity}
+use Rattle.command_words.specs.Expiry.{without_due}
 use Rattle.command_words.specs.Space.{Space}
 use Rattle.command_words.specs.Words.{reading}
 use Rattle.track_modes.specs.declared.fault.ModeFault.{ModeFault}
@@ -20,25 +24,25 @@ use Rattle.track_modes.specs.declared.fault.ModeFault.TheVariants.{SwitchBcast, 
 use Rattle.track_modes.specs.declared.fault.ModeFault.TheVariants.{OptWithBcast, SwitchOpt}
 use Rattle.track_modes.specs.declared.fault.ModeFault.TheVariants.{Overlap, NotOpt, YesNeedsOptin}
 use Rattle.track_modes.specs.declared.fault.ModeFault.TheVariants.{NoNeedsOptout, NoMemory}
-use Rattle.track_modes.specs.Commands.{fault_at}
-use Rattle.track_modes.specs.ModeState.{ModeState, flags, prefixes_of}
+use Rattle.track_modes.specs.Commands.{channel, fault_at}
+use Rattle.track_modes.specs.ModeState.{ModeState, flags, prefixes_of, redirect_of}
 use Rattle.track_modes.specs.Texts.{mode_fault_text}
+use Rattle.redirect.specs.declared.routes.Route.{Route}
 use Rattle.serial_model.specs.declared.history.Limits.{Limits}
 use Rattle.serial_model.specs.declared.history.Entry.{Entry}
 use Rattle.serial_model.specs.declared.history.Entry.TheVariants.{Admit, Run, Tick, Take, Close}
-use Rattle.serial_model.specs.Modes.{Runner, accepted, is_stopping, pong, tracking_info}
+use Rattle.serial_model.specs.Modes.{Runner, accepted, is_confined, is_stopping}
+use Rattle.serial_model.specs.Modes.{left_channel, pong, subscribe_reply, subscription}
+use Rattle.serial_model.specs.Modes.{tracking_info, unsubscribe_reply}
 use Rattle.serial_model.specs.Tracking.{Invalidation}
 use Rattle.serial_model.specs.State.{State, is_live, is_on}
-use Rattle.serial_model.specs.Actions.{Action, Sending, End, action_sends, ends, heard}
-use Rattle.serial_model.specs.Actions.{expiry_told, is_overgrown, later_told, messages, replies}
-use Rattle.serial_model.specs.Actions.{to_one}
-use Rattle.serial_model.specs.Plain.{IsPlainAction, pushed, pushes, tests_before, tests_then}
-use Rattle.serial_model.specs.History.{effect_of, ran_over, ran, run_action, sends, sent_to, state}
-use Rattle.serial_model.specs.History.{tick_action}
-use Rattle.serial_model.proofs.PlainActions.{first, first_is, rest, rest_is, run_plain}
-use Rattle.serial_model.proofs.PlainActions.{states_are_plain, tick_plain}
-use Rattle.serial_model.proofs.Sendings.{heard-append}
-use Rattle.resp_laws.specs.Fronts.{AreWellFormed, Every}
+use Rattle.serial_model.specs.Actions.{Action, Sending, End, action_sends, all_messages, carried}
+use Rattle.serial_model.specs.Actions.{ends, expiry_told, heard, is_overgrown, later_told, messages}
+use Rattle.serial_model.specs.Actions.{modes_then, replies, route_at, routed, to_one, way}
+use Rattle.serial_model.specs.History.{effect_of, keyspace, ran_over, ran, run_action, runner}
+use Rattle.serial_model.specs.History.{sends, sent_to, served, served_reading, state, tick_action}
+use Rattle.serial_model.proofs.ServedRows.{ran_cases}
+use Rattle.resp_laws.specs.Fronts.{AreWellFormed, Every, IsWellFormed}
 use Rattle.resp_laws.specs.Values.{IsPlain}
 use Rattle.link_laws.specs.Crossing.{IsReadable, SentIsWellFormed}
 use Rattle.link_laws.proofs.Plain.{plain_text, fault_plain}
@@ -64,9 +68,16 @@ accepted_good : (fault : Option ModeFault) → IsGood (accepted fault)
 accepted_good None p = plain_text (codes "OK") refl
 accepted_good (Some fault) p = mode_fault_plain fault
 
-pong_good : (text : Option (List ℕ)) → IsGood (pong text)
-pong_good None p = plain_text (codes "PONG") refl
-pong_good (Some text) p = tt
+pong_good : (m : ModeState) (text : Option (List ℕ)) → IsGood (pong m text)
+pong_good m text = by (is_confined m) text
+  where
+    by : (confined : Bool) (text : Option (List ℕ))
+        → IsGood (cond confined
+        (Array (blob (codes "pong") ∷ blob (option_map_or (λ t. t) text []) ∷ []))
+        (option_map_or Blob text (Simple (codes "PONG"))))
+    by true text p = (tt, (tt, tt))
+    by false None p = plain_text (codes "PONG") refl
+    by false (Some text) p = tt
 
 blobs_good : (p : Proto) (words : List (List ℕ)) → AreWellFormed p (trees_of (map blob words))
 blobs_good p words = are_mapped blob p (λ w. tt) words
@@ -78,10 +89,28 @@ info_good is_broken m p = (
   (tt, tt, (tt, blobs_good p (prefixes_of m.tracking), tt)),
 )
 
+subscribe_good : (c : List ℕ) → IsGood (subscribe_reply c)
+subscribe_good c = by (bytes_eq c channel)
+  where
+    by : (served : Bool)
+        → IsGood (cond served (subscription (codes "subscribe") (blob c) true)
+        (Error (codes "ERR channel not served")))
+    by true p = (tt, (tt, (tt, tt)))
+    by false p = plain_text (codes "ERR channel not served") refl
+
+left_good : (p : Proto) (c : Option (List ℕ)) (subscribed : Bool)
+    → IsWellFormed p (left_channel c subscribed)
+left_good p (Some c) subscribed = tt
+left_good p None true = tt
+left_good p None false = tt
+
+unsubscribe_good : (c : Option (List ℕ)) (m : ModeState) → IsGood (unsubscribe_reply c m)
+unsubscribe_good c m p = (tt, (left_good p c m.subscribed, (tt, tt)))
+
 effect_of_good : (by : Runner) (words : List (List ℕ)) (r : Result Command WordFault)
     (space : Space) (moment : ℕ) → (r ≡ Err Arity → reading words ≡ Err Arity)
     → Replies (effect_of by words r space moment)
-effect_of_good by words (Ok (Ping text)) space m h = pong_good text
+effect_of_good by words (Ok (Ping text)) space m h = pong_good by.mode text
 effect_of_good by words (Ok (Echo text)) space m h = λ p. tt
 effect_of_good by words (Ok (Hello word)) space m h = grind (arith, plain_text)
 effect_of_good by words (Ok Reset) space m h = λ p. plain_text (codes "RESET") refl
@@ -93,13 +122,26 @@ effect_of_good by words (Ok (ClientCaching is_yes)) space m h =
     accepted_good (fault_at (ClientCaching is_yes) by.target_exists by.mode)
 effect_of_good by words (Ok ClientGetRedir) space m h = λ p. tt
 effect_of_good by words (Ok ClientTrackingInfo) space m h = info_good by.is_broken by.mode
+effect_of_good by words (Ok (Subscribe c)) space m h = subscribe_good c
+effect_of_good by words (Ok (Unsubscribe c)) space m h = unsubscribe_good c by.mode
 effect_of_good by words (Ok command) space m h = effect_good command space m
 effect_of_good by words (Err fault) space m h = grind (arith, fault_plain)
 
+-- one that the mode does not allow is refused
+ran_good : (by : Runner) (words : List (List ℕ)) (space : Space) (moment : ℕ)
+    → Replies (ran_over space by words moment)
+ran_good by words space moment =
+    ran_cases by words (λ e o. Replies e) space moment
+    (effect_of_good by words (served_reading words) space moment (read_arity (reading words)))
+    (λ p. plain_text (codes "ERR not allowed while subscribed") refl)
+  where
+    read_arity : (read : Result Command WordFault) → served read ≡ Err Arity → read ≡ Err Arity
+    read_arity read h = grind arith
+
 pub reply_good : (l : Limits) (past : List Entry) (id moment : ℕ) (words : List (List ℕ))
     → Replies (ran l past id words moment)
-unfolding ran_over
-reply_good l past id moment words = grind (arith, effect_of_good)
+reply_good l past id moment words =
+    ran_good (runner l past id words moment) words (without_due moment (keyspace l past)) moment
 
 -- ---- lists of what is sent
 
@@ -124,14 +166,17 @@ readable_heard s [] h = tt
 readable_heard s (x ∷ ss) h =
     readable_kept (is_on s x.0) x (heard s ss) h.0 (readable_heard s ss h.1)
 
-readable_pushed : (test : ℕ → Bool) (i : Invalidation) → Readable (pushed test i)
-readable_pushed test i = grind (arith, are_mapped)
+readable_carried : (r : Route) (target : Option ℕ) (keys : Option (List (List ℕ)))
+    → Readable (carried r target keys)
+readable_carried r target keys = grind (arith, are_mapped)
 
-readable_pushes : (test : ℕ → Bool) (told : List Invalidation) → Readable (pushes test told)
-readable_pushes test [] = tt
-readable_pushes test (i ∷ told) =
-    readable_both (pushed test i) (pushes test told) (readable_pushed test i)
-    (readable_pushes test told)
+readable_routed : (modes : ℕ → ModeState) (on : ℕ → Bool) (told : List Invalidation)
+    → Readable (routed modes on told)
+readable_routed modes on [] = tt
+readable_routed modes on (i ∷ told) =
+    readable_both (way modes on i) (routed modes on told)
+    (readable_carried (route_at modes on i.to) (redirect_of (modes i.to).tracking) i.keys)
+    (readable_routed modes on told)
 
 readable_ends : (ids : List ℕ) → Readable (map (λ c. (c, End)) ids)
 readable_ends [] = tt
@@ -144,30 +189,15 @@ readable_reply false id proto v h = (h proto, tt)
 
 -- ---- an entry
 
-module _ (l : Limits) (past : List Entry) (t : Action) (p : IsPlainAction t)
-    (replied : Readable (replies t)) where
-  abbrev s : State
-  s = state l past
-
-  abbrev told : List (ℕ × Sending)
-  told = first l t s (states_are_plain l past) p
-
-  abbrev later : List (ℕ × Sending)
-  later = rest l t s (states_are_plain l past) p
-
+module _ (l : Limits) (s : State) (t : Action) (replied : Readable (replies t)) where
   readable_messages : Readable (messages l t s)
   readable_messages =
-      let h = states_are_plain l past in
-      subst Readable
-      (sym (heard-append s (told ++ replies t) later
-      ∙ ap (λ x. x ++ heard s later) (heard-append s told (replies t))))
-      (readable_both (heard s told ++ heard s (replies t)) (heard s later)
-      (readable_both (heard s told) (heard s (replies t))
-      (subst Readable (sym (first_is l t s h p))
-      (readable_pushes (tests_before s) (expiry_told t s)))
-      (readable_heard s (replies t) replied))
-      (subst Readable (sym (rest_is l t s h p))
-      (readable_pushes (tests_then t s) (later_told l t s))))
+      let told = routed s.modes (is_on s) (expiry_told t s) in
+      let later = routed (modes_then t s) (is_on s) (later_told l t s) in
+      readable_heard s (all_messages l t s)
+      (readable_both (told ++ replies t) later
+      (readable_both told (replies t) (readable_routed s.modes (is_on s) (expiry_told t s)) replied)
+      (readable_routed (modes_then t s) (is_on s) (later_told l t s)))
 
   readable_action : Readable (action_sends (is_overgrown l t s) l t s)
   readable_action =
@@ -182,12 +212,11 @@ readable_sends : (l : Limits) (entry : Entry) (past : List Entry)
     → Readable (sends l entry (state l past))
 readable_sends l (Run id words m) past =
     let t = run_action id words m (state l past) in
-    readable_action l past t (run_plain id words m (state l past) (states_are_plain l past))
+    readable_action l (state l past) t
     (readable_reply (is_stopping t.effect.ending) id t.effect.mode.proto
     (ran l past id words m).reply (reply_good l past id m words))
 readable_sends l (Tick m) past =
-    readable_action l past (tick_action m (state l past))
-    (tick_plain m (state l past) (states_are_plain l past)) tt
+    readable_action l (state l past) (tick_action m (state l past)) tt
 readable_sends l (Close id) past = readable_close (is_live ((state l past).standing id)) id
 readable_sends l (Admit id) past = tt
 readable_sends l (Take id max) past = tt

@@ -38,13 +38,10 @@ use Rattle.redirect.specs.Routes.{route_of}
 use Rattle.serial_model.specs.declared.history.Entry.{Entry}
 use Rattle.serial_model.specs.Tracking.{ids_where}
 use Rattle.serial_model.specs.Each.{AllTo}
-use Rattle.serial_model.specs.Plain.{IsPlainMode, is_plain_tracking}
 use Rattle.serial_model.specs.Actions.{drops_told, is_passed, own_told, rows_grown, rows_then}
 use Rattle.serial_model.specs.Actions.{target_at, tracks}
-use Rattle.serial_model.specs.History.{protocol, runner_in, sends}
-use Rattle.serial_model.specs.Laws.{DueIsPushed}
-use Rattle.serial_model.proofs.PlainActions.{run_plain, states_are_plain, then_plain}
-use Rattle.serial_model.proofs.PlainActions.{tick_plain}
+use Rattle.serial_model.specs.History.{runner_in, sends}
+use Rattle.serial_model.specs.Laws.{DueIsPushed, IsDirect}
 use Rattle.serial_model.proofs.Quiet.{same_or_none, tick_none}
 use Rattle.serial_model.proofs.Tables.{drop_group_all, dropped_all, ids_all, signal_group_all}
 use Rattle.serial_model.proofs.Tables.{whole_group_all, without_keys_all}
@@ -222,7 +219,7 @@ told_is_sent l e past c r proto key told h to =
     (sym (on_is l past c) ∙ (and_parts (is_on (state l past) c) _ told).0) to
     (told_is_due l e past c key told (or_left _ _ h))
 
--- ---- while no redirection is served
+-- ---- while messages are redirected to no other connection
 
 -- one that is told has what all that are told have
 told_has : (P : ℕ → Type 0) (c : ℕ) (key : List ℕ) (told : List Invalidation) → AllTo P told
@@ -234,17 +231,16 @@ told_has P c key (i ∷ told) a h =
       | inr e ↦ told_has P c key told a.1 e
     ]
 
-plain_route : (t : Tracking) (c : ℕ) (p : Proto) (target : Option Peer)
-    → is_plain_tracking t ≡ true → track.is_on t ≡ true
+own_route : (t : Tracking) (c : ℕ) (p : Proto) (target : Option Peer)
+    → redirect_of t ≡ None → track.is_on t ≡ true
     → tracking_route t c p target ≡ direct_route c p
-plain_route t c p target plain on = grind arith
+own_route t c p target own on = grind arith
 
-pushes_to : (c : ℕ) (m : ModeState) (target : Option Peer) → IsPlainMode m
-    → track.is_on m.tracking ≡ true → m.proto ≡ Three
-    → receiver (route_of c target m) ≡ Some (c, Three)
-pushes_to c m target plain on three =
-    ap receiver (plain_route m.tracking c m.proto target plain.tracking on)
-    ∙ ap (λ p. receiver (direct_route c p)) three
+pushes_to : (c : ℕ) (m : ModeState) (target : Option Peer) → IsDirect m
+    → track.is_on m.tracking ≡ true → receiver (route_of c target m) ≡ Some (c, Three)
+pushes_to c m target direct on =
+    ap receiver (own_route m.tracking c m.proto target direct.own on)
+    ∙ ap (λ p. receiver (direct_route c p)) direct.proto
 
 -- who is told behind the command tracks behind it
 later_tracks : (l : Limits) (t : Action) (s : State) (c : ℕ) (key : List ℕ) → AllTrack s
@@ -279,39 +275,34 @@ module _ (l : Limits) (past : List Entry) (c : ℕ) (key : List ℕ) where
       (all_track l past).of_keys (all_track l past).of_prefixes) h
 
   run_pushed : (id moment : ℕ) (words : List (List ℕ)) → is_on now c ≡ true
-      → protocol l c past ≡ Three
-      → (modes_then (run_action id words moment now) now c).proto ≡ Three
+      → IsDirect (now.modes c) → IsDirect (modes_then (run_action id words moment now) now c)
       → list_any (tells c key) (action_told l (run_action id words moment now) now) ≡ true
       → IsToldAmong Three key (length past + 1)
       (sent_to (length past + 1) c (sends l (Run id words moment) now))
   run_pushed id moment words on before then due =
       let t = run_action id words moment now in
-      let h = states_are_plain l past in
-      let p = run_plain id words moment now h in
       action_told_among (is_overgrown l t now) l t now (length past + 1) c c Three key on
-      (λ e. pushes_to c (now.modes c) (target_at now.modes (is_on now) c) (h.each c)
-      (first_tracks t e) before)
-      (λ e. pushes_to c (modes_then t now c) (target_at (modes_then t now) (is_on now) c)
-      (then_plain l t now h p c)
-      (elim (same_or_none l past c id words moment) [
+      (λ e. pushes_to c (now.modes c) (target_at now.modes (is_on now) c) before
+      (first_tracks t e))
+      (λ e. pushes_to c (modes_then t now c) (target_at (modes_then t now) (is_on now) c) then
+      (elim (same_or_none l past id words moment) [
         | inl same ↦ later_tracks l t now c key (all_track l past)
-            (made_tracks words (runner_in now id words)) same.1 e
+            (made_tracks words (runner_in now id words moment))
+            (ap (λ (m : ModeState). track.is_on m.tracking) (same c)) e
         | inr none ↦ absurd (both_ways _
             (ap (list_any (tells c key)) none) e)
-      ]) then)
+      ]))
       due
 
-  tick_pushed : (moment : ℕ) → is_on now c ≡ true → protocol l c past ≡ Three
+  tick_pushed : (moment : ℕ) → is_on now c ≡ true → IsDirect (now.modes c)
       → list_any (tells c key) (action_told l (tick_action moment now) now) ≡ true
       → IsToldAmong Three key (length past + 1)
       (sent_to (length past + 1) c (sends l (Tick moment) now))
   tick_pushed moment on before due =
       let t = tick_action moment now in
-      let h = states_are_plain l past in
-      let p = tick_plain moment now h in
       action_told_among (is_overgrown l t now) l t now (length past + 1) c c Three key on
-      (λ e. pushes_to c (now.modes c) (target_at now.modes (is_on now) c) (h.each c)
-      (first_tracks t e) before)
+      (λ e. pushes_to c (now.modes c) (target_at now.modes (is_on now) c) before
+      (first_tracks t e))
       (λ e. absurd (both_ways _
       (ap (list_any (tells c key)) (tick_none l past moment)) e))
       due

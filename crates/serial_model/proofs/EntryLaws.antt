@@ -7,6 +7,7 @@ use Rattle.command_words.specs.declared.command.Command.{Command}
 use Rattle.command_words.specs.Effect.{Effect}
 use Rattle.command_words.specs.Laws.{signals}
 use Rattle.command_words.specs.Space.{Space, held_at}
+use Rattle.command_words.specs.Words.{reading}
 use Rattle.serial_model.specs.declared.history.Limits.{Limits}
 use Rattle.serial_model.specs.declared.history.Entry.{Entry}
 use Rattle.serial_model.specs.declared.history.Entry.TheVariants.{Run}
@@ -16,7 +17,8 @@ use Rattle.serial_model.specs.History.{state, sends, sent_to, sent, has_ended, I
 use Rattle.serial_model.specs.History.{effect_of, ran_over, ran, keyspace, is_admitted, expired}
 use Rattle.serial_model.specs.Laws.{AreOf, is_among}
 use Rattle.serial_model.proofs.DueKeys.{due_is_past}
-use Rattle.serial_model.proofs.ServedRows.{served_cases, data_effect, own_replied, row_of}
+use Rattle.serial_model.proofs.ServedRows.{served_cases, data_effect, own_replied, ran_cases}
+use Rattle.serial_model.proofs.ServedRows.{row_of}
 use Rattle.serial_model.proofs.Streams.{IsLive, live}
 
 -- ---- what is sent
@@ -56,11 +58,18 @@ change_of by words read space m q =
     (sym (data_effect by words c space m is)) ((row_of c space m is).others_stay q))
     (λ fault h. refl) read
 
+ran_change : (by : Runner) (words : List (List ℕ)) (space : Space) (m : ℕ) (q : List ℕ)
+    → signals (ran_over space by words m).signalled q ≡ false
+    → held_at q (ran_over space by words m).space ≡ held_at q space
+ran_change by words space m q =
+    ran_cases by words (λ ran made. signals ran.signalled q ≡ false
+    → held_at q ran.space ≡ held_at q space) space m
+    (change_of by words (reading words) space m q) (λ h. refl)
+
 -- a key that a Run does not signal, by its deadline or its command, holds what it held
 pub held_same : (l : Limits) (id moment : ℕ) (words : List (List ℕ)) (key : List ℕ)
     (past : List Entry)
     → is_among (expired l past moment) key ≡ false
     → signals (ran l past id words moment).signalled key ≡ false
     → held_at key (ran l past id words moment).space ≡ held_at key (keyspace l past)
-unfolding ran_over
-held_same l id moment words key past none h = grind (arith, change_of, at_without_due, due_is_past)
+held_same l id moment words key past none h = grind (arith, ran_change, at_without_due, due_is_past)

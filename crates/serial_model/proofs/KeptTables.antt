@@ -56,7 +56,7 @@ module _ (l : Limits) where
   grown_from past id words moment h =
       let then = table_then l past moment in
       let sig = signals l past id words moment in
-      table_remembering id (made l past id words).memory (without_signalled sig then)
+      table_remembering id (made l past id words moment).memory (without_signalled sig then)
       (table_without_signalled sig then
       (table_without_keys (expired l past moment) (table l past) h))
 

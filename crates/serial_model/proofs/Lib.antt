@@ -28,8 +28,11 @@ pub mod ToldLaws
 pub mod OwedLaws
 pub mod DueLaws
 pub mod BeforeReply
-pub mod PlainActions
+pub mod ActionSends
 pub mod Quiet
+pub mod Notices
+pub mod Broken
+pub mod Resets
 pub mod PrefixGroups
 pub mod OwnPrefixes
 pub mod Registered

@@ -12,6 +12,7 @@ use Rattle.track_modes.specs.declared.tracking.Tracking.TheVariants.{Off, On}
 use Rattle.redirect.specs.Routes.{direct_route, peer_route, lost_route, redirected_route}
 use Rattle.redirect.specs.Routes.{tracking_route}
 use Rattle.serial_model.specs.declared.history.Limits.{Limits}
+use Rattle.serial_model.specs.declared.history.Entry.{Entry}
 use Rattle.serial_model.specs.declared.history.Entry.TheVariants.{Admit, Run, Tick, Take, Close}
 use Rattle.serial_model.specs.State.{State, is_on}
 use Rattle.serial_model.specs.Tracking.{Invalidation, ids_where}
@@ -21,7 +22,7 @@ use Rattle.serial_model.specs.Actions.{all_messages, messages, modes_then, expir
 use Rattle.serial_model.specs.Actions.{later_told, drops_told, is_passed, tracks, rows_then}
 use Rattle.serial_model.specs.Actions.{rows_grown}
 use Rattle.serial_model.specs.Each.{AllIn, AllTo}
-use Rattle.serial_model.specs.History.{state, run_action, tick_action}
+use Rattle.serial_model.specs.History.{IsLegal, run_action, runs_on, state, tick_action}
 use Rattle.serial_model.specs.Laws.{MessagesAreLive}
 use Rattle.serial_model.proofs.Each.{in_append, all_kept}
 use Rattle.serial_model.proofs.Tables.{whole_group_all, signal_group_all, ids_all, dropped_all}
@@ -99,16 +100,28 @@ action_to l t s a own reply =
     (drop_group_all P _ (dropped_all P l.table_max (rows_grown t s)
     (grown_live (λ c. false) l t s a own))))))
 
-pub messages_are_live : MessagesAreLive
-messages_are_live l (Run id words moment) past h =
+-- also where the entry's moment is not after those before it
+pub run_live : (l : Limits) (past : List Entry) (id : ℕ) (words : List (List ℕ)) (moment : ℕ)
+    → IsLegal l past → runs_on l past id ≡ true
+    → messages l (run_action id words moment (state l past)) (state l past)
+    ≡ all_messages l (run_action id words moment (state l past)) (state l past)
+run_live l past id words moment legal runs =
     let s = state l past in
     let t = run_action id words moment s in
-    let on = on_is l past id ∙ h.0 in
-    action_to l t s (all_live l past h.2) (run_adds s id words moment on)
+    let on = on_is l past id ∙ runs in
+    action_to l t s (all_live l past legal) (run_adds s id words moment on)
     (one_to (is_on s) id t.effect.mode.proto t.effect.reply on)
-messages_are_live l (Tick moment) past h =
+
+pub tick_live : (l : Limits) (past : List Entry) (moment : ℕ) → IsLegal l past
+    → messages l (tick_action moment (state l past)) (state l past)
+    ≡ all_messages l (tick_action moment (state l past)) (state l past)
+tick_live l past moment legal =
     let s = state l past in
-    action_to l (tick_action moment s) s (all_live l past h.2) (tick_adds s moment) tt
+    action_to l (tick_action moment s) s (all_live l past legal) (tick_adds s moment) tt
+
+pub messages_are_live : MessagesAreLive
+messages_are_live l (Run id words moment) past h = run_live l past id words moment h.2 h.0
+messages_are_live l (Tick moment) past h = tick_live l past moment h.2
 messages_are_live l (Admit id) past h = tt
 messages_are_live l (Take id max) past h = tt
 messages_are_live l (Close id) past h = tt

@@ -18,7 +18,8 @@ use Rattle.track_modes.specs.PrefixLists.{overlapped}
 use Rattle.track_modes.specs.Tracked.{caching_fault, has_prefix, on_fault, switches_bcast}
 use Rattle.track_modes.specs.Tracked.{switches_opt, tracking_fault}
 use Rattle.serial_model.specs.declared.history.Entry.TheVariants.{Admit, Run, Tick, Take, Close}
-use Rattle.serial_model.specs.Modes.{Runner, own_effect, unless_refused}
+use Rattle.serial_model.specs.Modes.{Runner, is_barred, own_effect, refused_effect}
+use Rattle.serial_model.specs.Modes.{unless_refused}
 use Rattle.serial_model.specs.History.{is_served, made_of, mode, runner, served, state}
 use Rattle.serial_model.specs.Laws.{NextAfterMark, is_marked, sets_caching}
 use Rattle.serial_model.proofs.ModeSteps.{mode_other, mode_own, mode_tick}
@@ -67,30 +68,44 @@ left_by : (fault : Option ModeFault) (c : Command) (m : ModeState) → runs_out 
     → (unless_refused fault c m).mode.caching ≡ (is_caching_command c && not (is_some fault))
 left_by fault c m known = grind arith
 
-sets : (c : Command) (there : Bool) (m : ModeState)
+sets : (c : Command) (there : Bool) (m : ModeState) → is_barred m (Ok c) ≡ false
     → (is_caching_command c && not (is_some (fault_at c there m))) ≡ sets_caching (Ok c) m
 unfolding fault_at
-sets c there m = grind arith
+sets c there m allowed = grind arith
 
-command_mark : (c : Command) (by : Runner)
+command_mark : (c : Command) (by : Runner) → is_barred by.mode (Ok c) ≡ false
     → (own_effect (Ok c) by).mode.caching ≡ sets_caching (Ok c) by.mode
-command_mark c by =
+command_mark c by allowed =
     left_by (fault_at c by.target_exists by.mode) c by.mode
     (fault_known c by.target_exists by.mode)
-    ∙ sets c by.target_exists by.mode
+    ∙ sets c by.target_exists by.mode allowed
+
+barred : (c : Command) (m : ModeState) → is_barred m (Ok c) ≡ true
+    → false ≡ sets_caching (Ok c) m
+barred c m h = grind arith
 
 unserved : (c : Command) (m : ModeState) → is_served c ≡ false
     → false ≡ sets_caching (Ok c) m
 unserved c m h = grind arith
 
+abbrev mark_by : Bool → Result Command WordFault → Runner → Bool
+mark_by is_barred r by =
+    (cond is_barred (refused_effect by.mode) (own_effect r by)).mode.caching
+
+mark_of : (c : Command) (by : Runner) (b : Bool) → is_barred by.mode (Ok c) ≡ b
+    → mark_by b (Ok c) by ≡ sets_caching (Ok c) by.mode
+mark_of c by true e = barred c by.mode e
+mark_of c by false e = command_mark c by e
+
 mark_after : (r : Result Command WordFault) (by : Runner)
-    → (own_effect (served r) by).mode.caching ≡ sets_caching r by.mode
+    → mark_by (is_barred by.mode (served r)) (served r) by ≡ sets_caching r by.mode
 mark_after (Err fault) by = refl
 mark_after (Ok c) by = by_serving (is_served c) refl
   where
     by_serving : (b : Bool) → is_served c ≡ b
-        → (own_effect (cond b (Ok c) (Err Unknown)) by).mode.caching ≡ sets_caching (Ok c) by.mode
-    by_serving true is = command_mark c by
+        → mark_by (is_barred by.mode (cond b (Ok c) (Err Unknown))) (cond b (Ok c) (Err Unknown)) by
+        ≡ sets_caching (Ok c) by.mode
+    by_serving true is = mark_of c by (is_barred by.mode (Ok c)) refl
     by_serving false is = unserved c by.mode is
 
 made_mark : (words : List (List ℕ)) (by : Runner)
@@ -105,7 +120,7 @@ next_after_mark l c (Admit id ∷ past) = next_after_mark l c past
 next_after_mark l c (Run id words m ∷ past) = elim (cases_Bool (id == c)) [
   | inl same ↦
       ap (λ (x : ModeState). x.caching) (mode_own l c id m words past same)
-      ∙ made_mark words (runner l past id words)
+      ∙ made_mark words (runner l past id words m)
       ∙ ap (λ k. sets_caching (reading words) (mode l k past)) (eqb-true id c same)
       ∙ ap (λ b. cond b (sets_caching (reading words) (mode l c past)) (is_marked l c past))
       (sym same)

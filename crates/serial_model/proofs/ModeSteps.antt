@@ -15,9 +15,9 @@ module _ (l : Limits) where
   mode_other c id m words past h = mode_by_own_runs l c (Run id words m) past h
 
   pub mode_own : (c id m : ℕ) (words : List (List ℕ)) (past : List Entry) → (id == c) ≡ true
-      → mode l c (Run id words m ∷ past) ≡ (made l past id words).mode
+      → mode l c (Run id words m ∷ past) ≡ (made l past id words m).mode
   unfolding state
-  mode_own c id m words past h = ap (λ b. cond b (made l past id words).mode (mode l c past)) h
+  mode_own c id m words past h = ap (λ b. cond b (made l past id words m).mode (mode l c past)) h
 
   pub mode_tick : (c m : ℕ) (past : List Entry) → mode l c (Tick m ∷ past) ≡ mode l c past
   mode_tick c m past = mode_by_own_runs l c (Tick m) past tt

@@ -31,6 +31,7 @@ use Rattle.serial_model.specs.declared.history.Entry.TheVariants.{Admit, Run, Ti
 use Rattle.serial_model.specs.declared.standing.Standing.{Standing}
 use Rattle.serial_model.specs.declared.standing.Standing.TheVariants.{Quit, Gone}
 use Rattle.serial_model.specs.Modes.{Memory, Remembers, Registers, Forgets, Runner, own_effect}
+use Rattle.serial_model.specs.Modes.{is_confined, refused_effect}
 use Rattle.serial_model.specs.State.{State, is_live, is_on, closed, for_each}
 use Rattle.serial_model.specs.Tracking.{has_id, remembering, registering, tells}
 use Rattle.serial_model.specs.Tracking.{without_signalled}
@@ -50,7 +51,7 @@ use Rattle.serial_model.proofs.KeyHolders.{keys_apart, signalled_apart, remember
 use Rattle.serial_model.proofs.KeyHolders.{remembered_own, drop_tells, dropped_or_kept}
 use Rattle.serial_model.proofs.KeyHolders.{without_other}
 use Rattle.serial_model.proofs.KeyHolders.{with_keeps, without_keeps, some_held}
-use Rattle.serial_model.proofs.ServedRows.{served_is}
+use Rattle.serial_model.proofs.ServedRows.{none_barred, served_is}
 use Rattle.serial_model.proofs.StateSteps.{run_ended, run_stands, run_table_stays}
 use Rattle.serial_model.proofs.TableSize.{none_dropped, then_within}
 use Rattle.serial_model.proofs.ToldLaws.{has_row}
@@ -63,13 +64,16 @@ query_remembers : (r : Result Command WordFault) (by : Runner) → reads_as_cach
 unfolding fault_at
 query_remembers r by h tracks = grind arith
 
-read_remembers : (l : Limits) (past : List Entry) (c : ℕ) (words : List (List ℕ)) (key : List ℕ)
-    → reads_as_cacheable (served (reading words)) ≡ true
+read_remembers : (l : Limits) (past : List Entry) (c m : ℕ) (words : List (List ℕ)) (key : List ℕ)
+    → reads_as_cacheable (served (reading words)) ≡ true → is_confined (mode l c past) ≡ false
     → remembers_read (mode l c past) ≡ true → key_of words ≡ key
-    → (made l past c words).memory ≡ Remembers (key ∷ [])
+    → (made l past c words m).memory ≡ Remembers (key ∷ [])
 unfolding made_of
-read_remembers l past c words key cacheable tracks is =
-    query_remembers (served (reading words)) (runner l past c words) cacheable tracks
+read_remembers l past c m words key cacheable free tracks is =
+    ap (λ b. (cond b (refused_effect (mode l c past))
+    (own_effect (served (reading words)) (runner l past c words m))).memory)
+    (none_barred (mode l c past) (served (reading words)) free)
+    ∙ query_remembers (served (reading words)) (runner l past c words m) cacheable tracks
     ∙ ap (λ r. Remembers (keys_read r)) (served_is (reading words) cacheable)
     ∙ ap Remembers (reads_its_key words (ap reads_as_cacheable
     (sym (served_is (reading words) cacheable)) ∙ cacheable))
@@ -119,13 +123,13 @@ grown_is_owed l c m words past key legal holds = elim (cases_Bool (is_quit words
 ]
 
 pub read_is_owed_or_told : ReadIsOwedOrTold
-read_is_owed_or_told l c m words past key legal cacheable tracks is =
+read_is_owed_or_told l c m words past key legal cacheable free tracks is =
     let s = state l past in
     let t = run_action c words m s in
     let rows = without_signalled t.effect.signalled (rows_then t s) in
     grown_is_owed l c m words past key legal
     (ap (λ y. has_id c (holders_of key (remembering c y rows)))
-    (read_remembers l past c words key cacheable tracks is) ∙ remembered_own c key rows)
+    (read_remembers l past c m words key cacheable free tracks is) ∙ remembered_own c key rows)
 
 -- ---- a prefix stays registered
 

@@ -2,12 +2,14 @@
 use Rattle.std.proofs.Common.{◌≡◌, ◌∙◌, ℕ, List, [], ◌∷◌, Bool, true, false, cond, refl, sym}
 use Rattle.std.proofs.Common.{ap, subst, arith, Option, Some, None, Result}
 use Rattle.std.specs.Prelude.{nat_eq}
+use Rattle.std.specs.FinMap.{empty}
 use Rattle.std.specs.List.{list_any, starts_with}
 use Rattle.command_words.specs.declared.command.Command.{Command}
 use Rattle.command_words.specs.declared.command.Command.TheVariants.{Ping, Echo, Hello, Reset, Quit}
 use Rattle.command_words.specs.declared.command.Command.TheVariants.{ClientId, ClientTracking}
 use Rattle.command_words.specs.declared.command.Command.TheVariants.{ClientCaching, ClientGetRedir}
 use Rattle.command_words.specs.declared.command.Command.TheVariants.{ClientTrackingInfo}
+use Rattle.command_words.specs.declared.command.Command.TheVariants.{Subscribe, Unsubscribe}
 use Rattle.command_words.specs.declared.command.TrackOptions.{TrackOptions}
 use Rattle.command_words.specs.declared.command.WordFault.{WordFault}
 use Rattle.command_words.specs.Effects.{has_row}
@@ -24,7 +26,7 @@ use Rattle.serial_model.specs.Modes.{Memory, Remembers, Registers, Forgets, OwnE
 use Rattle.serial_model.specs.Modes.{memory_of, own_effect, unless_refused}
 use Rattle.serial_model.specs.History.{is_served, made_of, served}
 use Rattle.serial_model.specs.Laws.{covers_key}
-use Rattle.serial_model.proofs.ServedRows.{served_cases, data_own}
+use Rattle.serial_model.proofs.ServedRows.{served_cases, data_own, ran_cases}
 
 module _ (key : List ℕ) where
   abbrev pub starts_any : List (List ℕ) → Bool
@@ -112,6 +114,9 @@ module _ (key : List ℕ) where
   changed_own (ClientCaching is_yes) exists m is none free = refl
   changed_own ClientGetRedir exists m is none free = refl
   changed_own ClientTrackingInfo exists m is none free = refl
+  changed_own (Subscribe channel) exists m is none free = refl
+  changed_own (Unsubscribe None) exists m is none free = refl
+  changed_own (Unsubscribe (Some channel)) exists m is none free = refl
   changed_own _ exists m is none free = absurd (let no : ⊥ = cc in no)
 
   fault_own : (fault : ModeFault) (m : ModeState)
@@ -139,5 +144,6 @@ module _ (key : List ℕ) where
       (λ fault. refl) r
 
   pub made_prefixes : (words : List (List ℕ)) (by : Runner) → OwnOf (made_of words by) by.mode
-  unfolding made_of
-  made_prefixes words by = own_prefixes (reading words) by
+  made_prefixes words by =
+      ran_cases by words (λ ran made. OwnOf made by.mode) empty 0 (own_prefixes (reading words) by)
+      refl

@@ -1,6 +1,6 @@
 -- What changes is signalled, and what is read is what a query of it answers.
 use Rattle.command_words.proofs.HeldAt.{at_without_due}
-use Rattle.std.proofs.Common.{◌≡◌, ◌∙◌, ℕ, List, None, Some, true, cond, refl, ap, arith}
+use Rattle.std.proofs.Common.{◌≡◌, ◌∙◌, ℕ, List, None, Some, true, false, cond, refl, ap, arith}
 use Rattle.std.proofs.lemmas.Bool.{or_parts}
 use Rattle.command_words.specs.Laws.{RepliesAreOfKeysRead}
 use Rattle.command_words.specs.Effects.{answer}
@@ -8,11 +8,11 @@ use Rattle.command_words.specs.Queries.{reads_as_cacheable, key_of}
 use Rattle.command_words.specs.Space.{Space, held_at}
 use Rattle.command_words.specs.Words.{reading}
 use Rattle.serial_model.specs.declared.history.Entry.TheVariants.{Admit, Run, Tick, Take, Close}
-use Rattle.serial_model.specs.Modes.{Runner}
+use Rattle.serial_model.specs.Modes.{Runner, is_confined}
 use Rattle.serial_model.specs.History.{state, keyspace, ran_over, ran, runner, served_reading}
 use Rattle.serial_model.specs.Laws.{ChangeIsSignalled, ReadReplies}
 use Rattle.serial_model.proofs.DueKeys.{due_is_past}
-use Rattle.serial_model.proofs.ServedRows.{served_is, query_effect, none_stops}
+use Rattle.serial_model.proofs.ServedRows.{served_is, query_effect, none_barred, none_stops}
 use Rattle.serial_model.proofs.EntryLaws.{held_same}
 use Rattle.serial_model.proofs.QueryKeys.{answers_alike}
 
@@ -39,13 +39,14 @@ change_is_signalled replies l (Close id) past key h = (refl, λ query cacheable 
 -- ---- what is read
 
 pub read_ran : (space : Space) (by : Runner) (words : List (List ℕ)) (moment : ℕ)
-    → reads_as_cacheable (served_reading words) ≡ true
+    → reads_as_cacheable (served_reading words) ≡ true → is_confined by.mode ≡ false
     → (ran_over space by words moment).reply ≡ answer words (ran_over space by words moment).space
 unfolding ran_over answer
-read_ran space by words moment h = grind (arith, served_is, query_effect)
+read_ran space by words moment h free =
+    rw (none_barred by.mode (served_reading words) free) (grind (arith, served_is, query_effect))
 
 pub read_replies : ReadReplies
 unfolding state
-read_replies l id moment words past h =
+read_replies l id moment words past h free =
     ap (λ b. cond b None (Some (ran l past id words moment).reply)) (none_stops (reading words))
-    ∙ ap (λ v. Some v) (read_ran _ (runner l past id words) words moment h)
+    ∙ ap (λ v. Some v) (read_ran _ (runner l past id words moment) words moment h free)

@@ -271,7 +271,7 @@ module _ (c : ℕ) (key : List ℕ) where
         own e =
             let t = run_action id words moment now in
             let here : is_on now c ≡ true = ap (is_on now) (sym e) ∙ on in
-            let own_of = made_prefixes key words (runner_in now id words) in
+            let own_of = made_prefixes key words (runner_in now id words moment) in
             ap (λ k. any (registering k t.effect.memory now.prefixes)) e
             ∙ registering_own t.effect.memory now.prefixes (now.modes id) t.effect.mode own_of
             (h ∙ ap (λ b. b && covers (now.modes c)) here ∙ ap (λ k. covers (now.modes k)) (sym e))

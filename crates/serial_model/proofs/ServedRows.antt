@@ -11,7 +11,7 @@ use Rattle.std.specs.Option.{option_map_or}
 use Rattle.std.specs.Str.{bytes_eq}
 use Rattle.std.proofs.lemmas.Slice.Eq.{bytes_eq-Decides}
 use Rattle.resp_value.specs.declared.value.Value.{Value}
-use Rattle.resp_value.specs.declared.value.Value.TheVariants.{Simple}
+use Rattle.resp_value.specs.declared.value.Value.TheVariants.{Error, Simple}
 use Rattle.resp_value.specs.Tree.{in_turn}
 use Rattle.command_words.specs.declared.command.Command.{Command}
 use Rattle.command_words.specs.declared.command.Command.TheVariants as command
@@ -37,12 +37,14 @@ use Rattle.command_words.specs.Strings.{incrby_effect, is_least, or_empty, sets,
 use Rattle.command_words.specs.Strings.{set_deadline}
 use Rattle.command_words.proofs.HeldAt.{at_insert, at_remove, at_remove_each}
 use Rattle.command_words.proofs.KeysOnce.{any_left, any_once, left_false, right_false}
-use Rattle.track_modes.specs.ModeState.{remembers_read}
+use Rattle.track_modes.specs.ModeState.{ModeState, remembers_read}
 use Rattle.track_modes.specs.Commands.{fault_at, spent_mode}
-use Rattle.serial_model.specs.Modes.{Runner, Remembers, own_effect, Ending, Quits, Stays, ending_of}
+use Rattle.serial_model.specs.Modes.{Runner, Remembers, OwnEffect, own_effect, refused_effect}
+use Rattle.serial_model.specs.Modes.{Ending, Quits, Stays, ending_of, is_barred, is_confined}
 use Rattle.serial_model.specs.Modes.{is_quitting, is_stopping}
 use Rattle.serial_model.specs.Tracking.{AreApart}
-use Rattle.serial_model.specs.History.{served, is_served, effect_of}
+use Rattle.serial_model.specs.History.{served, served_reading, is_served, effect_of, made_of}
+use Rattle.serial_model.specs.History.{ran_over}
 use Rattle.serial_model.specs.Laws.{is_among}
 
 -- ---- what is served
@@ -90,6 +92,32 @@ module _ (by : Runner) (words : List (List ℕ)) where
       → reads_as_cacheable r ≡ true → effect_of by words r s moment ≡ replied (answer_as r s) s
   unfolding effect string_effect hash_effect key_effect read_reply
   query_effect r s moment h = grind arith
+
+-- ---- what the mode allows
+
+abbrev pub barred_error : Value
+barred_error = Error (codes "ERR not allowed while subscribed")
+
+module _ (by : Runner) (words : List (List ℕ)) where
+  -- what words do and make is that of the command that is served, or the mode bars it
+  pub ran_cases : (P : Effect → OwnEffect → Type 0) (s : Space) (moment : ℕ)
+      → P (effect_of by words (served_reading words) s moment)
+      (own_effect (served_reading words) by)
+      → P (replied barred_error s) (refused_effect by.mode)
+      → P (ran_over s by words moment) (made_of words by)
+  unfolding ran_over made_of
+  ran_cases P s moment allowed barred =
+      elim (is_barred by.mode (served_reading words)) as (λ b. P
+      (cond b (replied barred_error s) (effect_of by words (served_reading words) s moment))
+      (cond b (refused_effect by.mode) (own_effect (served_reading words) by))) [
+        | true ↦ barred
+        | false ↦ allowed
+      ]
+
+-- a mode that is not confined bars nothing
+pub none_barred : (m : ModeState) (r : Result Command WordFault) → is_confined m ≡ false
+    → is_barred m r ≡ false
+none_barred m r free = grind arith
 
 -- data commands alone read keys
 pub read_none : (c : Command) → has_row c ≡ false → read c ≡ []

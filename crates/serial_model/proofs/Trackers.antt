@@ -2,14 +2,17 @@
 use Rattle.std.proofs.Common.{◌≡◌, ◌<◌, ℕ, List, [], ◌∷◌, Bool, true, false, cond, refl, sym}
 use Rattle.std.proofs.Common.{◌∙◌, arith, subst, Option, Some, None, Result, Ok, Err, length}
 use Rattle.std.specs.Prelude.{◌==◌}
+use Rattle.std.specs.FinMap.{empty}
 use Rattle.std.proofs.lemmas.Bool.{eqb-true, eqb-false}
 use Rattle.command_words.specs.declared.command.Command.{Command}
 use Rattle.command_words.specs.declared.command.Command.TheVariants.{Ping, Echo, Hello, Reset, Quit}
 use Rattle.command_words.specs.declared.command.Command.TheVariants.{ClientId, ClientTracking}
 use Rattle.command_words.specs.declared.command.Command.TheVariants.{ClientCaching, ClientGetRedir}
 use Rattle.command_words.specs.declared.command.Command.TheVariants.{ClientTrackingInfo}
+use Rattle.command_words.specs.declared.command.Command.TheVariants.{Subscribe, Unsubscribe}
 use Rattle.command_words.specs.declared.command.TrackOptions.{TrackOptions}
 use Rattle.command_words.specs.declared.command.WordFault.{WordFault}
+use Rattle.command_words.specs.declared.command.WordFault.TheVariants.{Unknown}
 use Rattle.command_words.specs.Effects.{has_row}
 use Rattle.command_words.specs.Queries.{read}
 use Rattle.command_words.specs.Words.{reading}
@@ -37,7 +40,7 @@ use Rattle.serial_model.proofs.Tables.{all_rows, all_registered, with_keys_all, 
 use Rattle.serial_model.proofs.Tables.{without_keys_all, without_signalled_all, kept_all, freed_all}
 use Rattle.serial_model.proofs.Tables.{unregistered_all, each_left_all, each_unregistered_all}
 use Rattle.serial_model.proofs.Tables.{left_all, still_registered}
-use Rattle.serial_model.proofs.ServedRows.{served_cases, data_own}
+use Rattle.serial_model.proofs.ServedRows.{served_cases, data_own, ran_cases}
 
 abbrev pub tracks_in : ModeState → Bool
 tracks_in m = is_on m.tracking
@@ -75,6 +78,9 @@ changed_own (ClientTracking options) m is none = tracking_own options m
 changed_own (ClientCaching is_yes) m is none = (refl, reads_track m [])
 changed_own ClientGetRedir m is none = (refl, reads_track m [])
 changed_own ClientTrackingInfo m is none = (refl, reads_track m [])
+changed_own (Subscribe channel) m is none = (refl, reads_track m [])
+changed_own (Unsubscribe None) m is none = (refl, reads_track m [])
+changed_own (Unsubscribe (Some channel)) m is none = (refl, reads_track m [])
 changed_own _ m is none = absurd (let no : ⊥ = cc in no)
 
 fault_own : (fault : ModeFault) (m : ModeState) → Own (Remembers []) m (after_refusal fault m)
@@ -101,8 +107,9 @@ own_tracks r by =
     (λ c h. data_tracks c by h) (λ fault. refused_own fault by) r
 
 pub made_tracks : (words : List (List ℕ)) (by : Runner) → OwnOf (made_of words by) by.mode
-unfolding made_of
-made_tracks words by = own_tracks (reading words) by
+made_tracks words by =
+    ran_cases by words (λ ran made. OwnOf made by.mode) empty 0 (own_tracks (reading words) by)
+    (refused_own Unknown by)
 
 abbrev pub Tracks : (ℕ → ModeState) → ℕ → Type 0
 Tracks modes h = tracks_in (modes h) ≡ true
@@ -193,7 +200,7 @@ all_track l (Admit id ∷ past) = all_track l past
 all_track l (Run id words moment ∷ past) =
     let s = state l past in
     let t = run_action id words moment s in
-    action_tracks (is_overgrown l t s) l t s (made_tracks words (runner_in s id words))
+    action_tracks (is_overgrown l t s) l t s (made_tracks words (runner_in s id words moment))
     (all_track l past)
 all_track l (Tick moment ∷ past) =
     let s = state l past in

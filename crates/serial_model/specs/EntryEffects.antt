@@ -1,10 +1,12 @@
 -- The effect of an entry: its number and its connection, the command that ran, the keys that left
 -- before it, its reply, and what it signals.
 use Rattle.std.specs.Prelude.{◌+◌, ℕ, List, [], ◌∷◌, length, take, Option, Some, None, Result, Ok}
-use Rattle.std.specs.Prelude.{Err, filter, not}
+use Rattle.std.specs.Prelude.{Err, filter, not, if◌then◌else◌}
 use Rattle.command_words.specs.declared.command.Command.{Command}
 use Rattle.command_words.specs.declared.command.Signalled.TheVariants.{Keys}
 use Rattle.command_words.specs.declared.command.WordFault.{WordFault}
+use Rattle.track_modes.specs.Commands.{allows}
+use Rattle.track_modes.specs.ModeState.{ModeState}
 use Rattle.serial_model.specs.declared.effect.Effect.{Effect}
 use Rattle.serial_model.specs.declared.effect.EntryKind.{EntryKind}
 use Rattle.serial_model.specs.declared.effect.EntryKind.TheVariants as kind
@@ -29,9 +31,10 @@ bare_effect entry id kind =
       kind = kind;
     }
 
-abbrev pub command_of : Result Command WordFault → Option Command
-command_of (Ok command) = Some command
-command_of (Err fault) = None
+-- the command that runs, where the mode allows it
+abbrev pub command_of : ModeState → Result Command WordFault → Option Command
+command_of m (Ok command) = if allows m command then Some command else None
+command_of m (Err fault) = None
 
 abbrev pub run_effect : Limits → ℕ → ℕ → List (List ℕ) → ℕ → List Entry → Effect
 run_effect l entry id words moment past =
@@ -39,7 +42,7 @@ run_effect l entry id words moment past =
     record {
       entry = entry;
       id = id;
-      command = command_of (served_reading words);
+      command = command_of ((state l past).modes id) (served_reading words);
       expired = t.expired;
       reply = t.effect.reply;
       signalled = t.effect.signalled;

@@ -1,6 +1,6 @@
 -- What a history says. A past is a list of entries, the newest first; entries, connections and the
 -- runs of words are numbered from 1, and 0 is no number.
-use Rattle.std.specs.Prelude.{◌≡◌, ◌+◌, ◌-◌, ◌≤◌, ◌&&◌, ◌==◌, ℕ, List, [], ◌∷◌, ◌++◌, Bool}
+use Rattle.std.specs.Prelude.{◌≡◌, ◌+◌, ◌-◌, ◌≤◌, ◌&&◌, ◌||◌, ◌==◌, ℕ, List, [], ◌∷◌, ◌++◌, Bool}
 use Rattle.std.specs.Prelude.{true, not, if◌then◌else◌, nat_lt, nat_le, length, min, take}
 use Rattle.std.specs.Prelude.{drop, Option, Some, None, codes, pos}
 use Rattle.std.specs.Prelude.{Ok, Err, Result}
@@ -12,6 +12,7 @@ use Rattle.command_words.specs.declared.command.Command.TheVariants.{Ping, Echo,
 use Rattle.command_words.specs.declared.command.Command.TheVariants.{ClientId, ClientTracking}
 use Rattle.command_words.specs.declared.command.Command.TheVariants.{ClientCaching, ClientGetRedir}
 use Rattle.command_words.specs.declared.command.Command.TheVariants.{ClientTrackingInfo}
+use Rattle.command_words.specs.declared.command.Command.TheVariants.{Subscribe, Unsubscribe}
 use Rattle.command_words.specs.declared.command.Signalled.{Signalled}
 use Rattle.command_words.specs.declared.command.Signalled.TheVariants.{Keys}
 use Rattle.command_words.specs.declared.command.WordFault.{WordFault}
@@ -27,17 +28,18 @@ use Rattle.track_table.specs.Table.{without_connection, without_keys, dropped}
 use Rattle.prefix_table.specs.Table as registrations
 use Rattle.track_modes.specs.ModeState.{ModeState}
 use Rattle.track_modes.specs.Commands.{fault_at}
-use Rattle.serial_model.specs.Modes.{hello, hello_reply, is_served_tracking, accepted, target_of}
-use Rattle.serial_model.specs.Modes.{pong, redirect_number, tracking_info}
-use Rattle.serial_model.specs.Modes.{Runner, OwnEffect, own_effect, Remembers, ending_of}
-use Rattle.serial_model.specs.Modes.{Stays, is_quitting, is_stopping}
+use Rattle.serial_model.specs.Modes.{hello, hello_reply, accepted, target_of}
+use Rattle.serial_model.specs.Modes.{pong, redirect_number, tracking_info, subscribe_reply}
+use Rattle.serial_model.specs.Modes.{unsubscribe_reply}
+use Rattle.serial_model.specs.Modes.{Runner, OwnEffect, own_effect, refused_effect, Remembers}
+use Rattle.serial_model.specs.Modes.{is_barred, ending_of, Stays, is_quitting, is_stopping}
 use Rattle.serial_model.specs.Deadlines.{due_keys}
-use Rattle.serial_model.specs.Tracking.{Invalidation}
+use Rattle.serial_model.specs.Tracking.{Invalidation, whole_group}
 use Rattle.serial_model.specs.State.{State, start, is_on, is_live, keeps_bytes, may_take}
 use Rattle.serial_model.specs.State.{closed, at}
 pub use Rattle.serial_model.specs.Actions.{Sending, Message, End, spelled, sending_bytes, routed}
 use Rattle.serial_model.specs.Actions.{Action, ActionEffect, replies, action_sends, action_leaves}
-use Rattle.serial_model.specs.Actions.{is_overgrown, expiry_told}
+use Rattle.serial_model.specs.Actions.{is_overgrown, are_lost, expiry_told}
 use Rattle.serial_model.specs.Actions.{own_told, later_told, rows_grown, tracks}
 use Rattle.serial_model.specs.declared.history.Limits.{Limits}
 use Rattle.serial_model.specs.declared.history.Entry.{Entry}
@@ -69,8 +71,8 @@ latest (Close id ∷ past) = latest past
 
 -- ---- what words do
 
--- the commands that the server runs: those on strings, on hashes and on keys; those of a connection
--- alone; and CLIENT TRACKING where its options concern no other connection
+-- the commands that the server runs: those on strings, on hashes and on keys, and those of a
+-- connection
 abbrev pub is_served : Command → Bool
 is_served (Ping text) = true
 is_served (Echo text) = true
@@ -78,10 +80,12 @@ is_served (Hello word) = true
 is_served Reset = true
 is_served Quit = true
 is_served ClientId = true
-is_served (ClientTracking options) = is_served_tracking options
+is_served (ClientTracking options) = true
 is_served (ClientCaching is_yes) = true
 is_served ClientGetRedir = true
 is_served ClientTrackingInfo = true
+is_served (Subscribe channel) = true
+is_served (Unsubscribe channel) = true
 is_served command = has_row command
 
 -- words that read as another are unknown to it
@@ -92,9 +96,9 @@ served (Err fault) = Err fault
 abbrev pub served_reading : List (List ℕ) → Result Command WordFault
 served_reading words = served (reading words)
 
--- what a command does to keys, and what it answers
+-- what a command that the mode allows does to keys, and what it answers
 abbrev pub effect_of : Runner → List (List ℕ) → Result Command WordFault → Space → ℕ → words.Effect
-effect_of by words (Ok (Ping text)) space moment = replied (pong text) space
+effect_of by words (Ok (Ping text)) space moment = replied (pong by.mode text) space
 effect_of by words (Ok (Echo text)) space moment = replied (Blob text) space
 effect_of by words (Ok (Hello word)) space moment =
     replied (hello_reply by.id (hello word by.mode.proto)) space
@@ -109,16 +113,24 @@ effect_of by words (Ok ClientGetRedir) space moment =
     replied (Number (redirect_number by.mode.tracking)) space
 effect_of by words (Ok ClientTrackingInfo) space moment =
     replied (Map (tracking_info by.is_broken by.mode)) space
+effect_of by words (Ok (Subscribe channel)) space moment = replied (subscribe_reply channel) space
+effect_of by words (Ok (Unsubscribe channel)) space moment =
+    replied (unsubscribe_reply channel by.mode) space
 effect_of by words (Ok command) space moment = effect command space moment
 effect_of by words (Err fault) space moment = replied (Error (fault_text words fault)) space
 
 -- what a connection's words do to a keyspace at a moment, a command or not
 unfoldable pub ran_over : Space → Runner → List (List ℕ) → ℕ → words.Effect
-ran_over space by words moment = effect_of by words (served_reading words) space moment
+ran_over space by words moment =
+    if is_barred by.mode (served_reading words)
+    then replied (Error (codes "ERR not allowed while subscribed")) space
+    else effect_of by words (served_reading words) space moment
 
 -- what words make of their connection, a command or not
 unfoldable pub made_of : List (List ℕ) → Runner → OwnEffect
-made_of words by = own_effect (served_reading words) by
+made_of words by =
+    if is_barred by.mode (served_reading words) then refused_effect by.mode
+    else own_effect (served_reading words) by
 
 -- the words end the connection that runs them
 abbrev pub is_quit : List (List ℕ) → Bool
@@ -129,19 +141,26 @@ abbrev pub is_target : State → Option ℕ → Bool
 is_target s None = true
 is_target s (Some r) = is_on s r
 
-abbrev pub runner_in : State → ℕ → List (List ℕ) → Runner
-runner_in s id words =
+-- its redirection is broken where one of the keys that leave before its command finds the target
+-- ended, too
+abbrev pub is_broken_then : State → ℕ → ℕ → Bool
+is_broken_then s id moment =
+    s.broken id
+    || are_lost s.modes (is_on s) (whole_group (due_keys moment s.space) s.table s.prefixes) id
+
+abbrev pub runner_in : State → ℕ → List (List ℕ) → ℕ → Runner
+runner_in s id words moment =
     record {
       id = id;
       mode = s.modes id;
-      is_broken = s.broken id;
+      is_broken = is_broken_then s id moment;
       target_exists = is_target s (target_of (served_reading words));
     }
 
 -- SHUTDOWN is not answered
 abbrev pub effect_in : State → ℕ → List (List ℕ) → ℕ → ActionEffect
 effect_in s id words moment =
-    let by = runner_in s id words in
+    let by = runner_in s id words moment in
     let ran = ran_over (without_due moment s.space) by words moment in
     let made = made_of words by in
     let ending = ending_of (served_reading words) in
@@ -240,17 +259,17 @@ is_tracking l past c = tracks (state l past) c
 
 -- ---- what it says of an entry
 
-abbrev pub runner : Limits → List Entry → ℕ → List (List ℕ) → Runner
-runner l past id words = runner_in (state l past) id words
+abbrev pub runner : Limits → List Entry → ℕ → List (List ℕ) → ℕ → Runner
+runner l past id words moment = runner_in (state l past) id words moment
 
 -- what a connection's words do after a past, at a moment
 abbrev pub ran : Limits → List Entry → ℕ → List (List ℕ) → ℕ → words.Effect
 ran l past id words moment =
-    ran_over (without_due moment (keyspace l past)) (runner l past id words) words moment
+    ran_over (without_due moment (keyspace l past)) (runner l past id words moment) words moment
 
 -- what its words make of a connection that has this past
-abbrev pub made : Limits → List Entry → ℕ → List (List ℕ) → OwnEffect
-made l past id words = made_of words (runner l past id words)
+abbrev pub made : Limits → List Entry → ℕ → List (List ℕ) → ℕ → OwnEffect
+made l past id words moment = made_of words (runner l past id words moment)
 
 -- the keys that are past their deadline, in order
 abbrev pub expired : Limits → List Entry → ℕ → List (List ℕ)

@@ -8,7 +8,8 @@ use Rattle.resp_value.specs.Lists.{IsPrefix}
 use Rattle.resp_value.specs.declared.value.Proto.{Proto}
 use Rattle.resp_value.specs.declared.value.Proto.TheVariants.{Two, Three}
 use Rattle.command_words.specs.declared.command.Command.{Command}
-use Rattle.command_words.specs.declared.command.Command.TheVariants.{ClientCaching}
+use Rattle.command_words.specs.declared.command.Command.TheVariants.{ClientCaching, ClientTracking}
+use Rattle.command_words.specs.declared.command.Command.TheVariants.{Reset}
 use Rattle.command_words.specs.declared.command.WordFault.{WordFault}
 use Rattle.command_words.specs.declared.command.Signalled.{Signalled}
 use Rattle.command_words.specs.declared.command.Signalled.TheVariants as signalled
@@ -20,11 +21,12 @@ use Rattle.command_words.specs.Effects.{answer}
 use Rattle.track_table.specs.declared.table.Held.{Held}
 use Rattle.track_table.specs.Table.{holders_of}
 use Rattle.prefix_table.specs.declared.table.Registration.{Registration}
-use Rattle.track_modes.specs.ModeState.{ModeState, new_mode, prefixes_of, remembers_read}
-use Rattle.track_modes.specs.Tracked.{caching_fault}
+use Rattle.track_modes.specs.ModeState.{ModeState, new_mode, prefixes_of, redirect_of}
+use Rattle.track_modes.specs.ModeState.{remembers_read}
+use Rattle.track_modes.specs.Tracked.{caching_fault, tracking_fault}
 use Rattle.redirect.specs.declared.routes.Route.{Route}
 use Rattle.redirect.specs.declared.routes.Route.TheVariants as route
-use Rattle.redirect.specs.Messages.{push_of, message_of}
+use Rattle.redirect.specs.Messages.{push_of, message_of, notice_of}
 use Rattle.serial_model.specs.declared.history.Limits.{Limits}
 use Rattle.serial_model.specs.declared.history.Entry.{Entry}
 use Rattle.serial_model.specs.declared.history.Entry.TheVariants as entry
@@ -33,7 +35,7 @@ use Rattle.serial_model.specs.declared.history.BookCall.{BookCall}
 use Rattle.serial_model.specs.declared.history.BookCall.TheVariants.{Admit, Run, Tick, Take}
 use Rattle.serial_model.specs.declared.history.BookCall.TheVariants.{Close}
 use Rattle.serial_model.specs.declared.history.BookReply.{BookReply}
-use Rattle.serial_model.specs.Modes.{Memory, Remembers, Registers, Forgets}
+use Rattle.serial_model.specs.Modes.{Memory, Remembers, Registers, Forgets, Runner, is_confined}
 use Rattle.serial_model.specs.Tracking.{tells, names_key, has_id}
 use Rattle.serial_model.specs.State.{State, Live, is_on}
 use Rattle.serial_model.specs.Actions.{Action, Sending, Message, End, routed, heard, messages}
@@ -43,10 +45,10 @@ use Rattle.serial_model.specs.Actions.{action_leaves}
 use Rattle.serial_model.specs.History.{admitted, is_admitted, has_ended, runs_on, sends, sent}
 use Rattle.serial_model.specs.History.{state}
 use Rattle.serial_model.specs.History.{stream, taken, unsent, runs_of, posted, posted_of, IsLegal}
-use Rattle.serial_model.specs.History.{mode, modes, protocol, reply_of, ran, effect_in}
+use Rattle.serial_model.specs.History.{mode, modes, reply_of, ran, effect_in}
 use Rattle.serial_model.specs.History.{keyspace, expired}
 use Rattle.serial_model.specs.History.{expiry_group, drops, invalidations, made, served_reading}
-use Rattle.serial_model.specs.History.{sent_to, run_action, tick_action, table}
+use Rattle.serial_model.specs.History.{sent_to, run_action, runner, tick_action, table}
 use Rattle.serial_model.specs.Steps.{book_step, IsCallable, Turns, given, answered}
 
 -- The bytes that a connection was given are the first bytes of what was sent to it.
@@ -97,9 +99,10 @@ ModeByOwnRuns =
     (l : Limits) (c : ℕ) (entry : Entry) (past : List Entry)
     → IsNoRun c entry → mode l c (entry ∷ past) ≡ mode l c past
 
--- the words are CLIENT CACHING, which this mode does not refuse
+-- the words are CLIENT CACHING, which this mode allows and does not refuse
 abbrev pub sets_caching : Result Command WordFault → ModeState → Bool
-sets_caching (Ok (ClientCaching is_yes)) m = not (is_some (caching_fault is_yes m.tracking))
+sets_caching (Ok (ClientCaching is_yes)) m =
+    not (is_confined m) && not (is_some (caching_fault is_yes m.tracking))
 sets_caching read m = false
 
 -- the newest Run of the connection is an accepted CLIENT CACHING
@@ -116,6 +119,15 @@ is_marked l c (entry.Close id ∷ past) = is_marked l c past
 abbrev pub NextAfterMark : Type 0
 NextAfterMark =
     (l : Limits) (c : ℕ) (past : List Entry) → (mode l c past).caching ≡ is_marked l c past
+
+-- RESET leaves its connection the mode with which it was admitted, and no broken redirection (the
+-- page of RESET).
+abbrev pub ResetRenews : Type 0
+ResetRenews =
+    (l : Limits) (id moment : ℕ) (words : List (List ℕ)) (past : List Entry)
+    → reading words ≡ Ok Reset
+    → (mode l id (entry.Run id words moment ∷ past) ≡ new_mode)
+    × ((state l (entry.Run id words moment ∷ past)).broken id ≡ false)
 
 -- The call is none of this connection's.
 abbrev pub IsOther : ℕ → BookCall → Type 0
@@ -324,7 +336,7 @@ is_forgets Forgets = true
 -- an entry is a Run by which a connection stops tracking
 abbrev pub stops_tracking : Limits → Entry → List Entry → ℕ → Bool
 stops_tracking l (entry.Run id words moment) past c =
-    (id == c) && is_forgets (made l past id words).memory
+    (id == c) && is_forgets (made l past id words moment).memory
 stops_tracking l _ past c = false
 
 -- A changed answer is signalled: where a key is not, each query on it answers as before.
@@ -336,11 +348,12 @@ ChangeIsSignalled =
     × ((query : List (List ℕ)) → reads_as_cacheable (reading query) ≡ true → key_of query ≡ key
     → answer query (keyspace l (entry ∷ past)) ≡ answer query (keyspace l past))
 
--- A cacheable read replies what its query answers at its entry.
+-- A cacheable read that its connection's mode allows replies what its query answers at its entry.
 abbrev pub ReadReplies : Type 0
 ReadReplies =
     (l : Limits) (id moment : ℕ) (words : List (List ℕ)) (past : List Entry)
     → reads_as_cacheable (served_reading words) ≡ true
+    → is_confined (mode l id past) ≡ false
     → (effect_in (state l past) id words moment).reply
     ≡ Some (answer words (keyspace l (entry.Run id words moment ∷ past)))
 
@@ -395,6 +408,11 @@ ReceivedBy t s c r proto =
     (receiver (route_at s.modes (is_on s) c) ≡ Some (r, proto))
     × (receiver (route_at (modes_then t s) (is_on s) c) ≡ Some (r, proto))
 
+-- A mode on the third protocol that redirects messages to no other connection.
+pub record IsDirect (m : ModeState) : Type 0 where
+  pub proto : m.proto ≡ Three
+  pub own : redirect_of m.tracking ≡ None
+
 -- The receiver is sent a message of each key that an entry tells the connection of.
 abbrev pub DueIsSent : Type 0
 DueIsSent =
@@ -404,16 +422,69 @@ DueIsSent =
     → IsToldAmong proto key (length past + 1)
     (sent_to (length past + 1) r (sends l entry (state l past)))
 
--- On the third protocol a connection is sent a push of each key that an entry tells it of, while no
--- redirection is served.
+-- On the third protocol a connection that redirects its messages to none is sent a push of each key
+-- that an entry tells it of.
 abbrev pub DueIsPushed : Type 0
 DueIsPushed =
     (l : Limits) (entry : Entry) (past : List Entry) (c : ℕ) (key : List ℕ)
     → runs_on l past c ≡ true
-    → protocol l c past ≡ Three → protocol l c (entry ∷ past) ≡ Three
+    → IsDirect (mode l c past) → IsDirect (mode l c (entry ∷ past))
     → is_due l entry past c key ≡ true
     → IsToldAmong Three key (length past + 1)
     (sent_to (length past + 1) c (sends l entry (state l past)))
+
+-- A mode on the third protocol that redirects messages to this connection.
+pub record RedirectsTo (target : ℕ) (m : ModeState) : Type 0 where
+  pub proto : m.proto ≡ Three
+  pub to : redirect_of m.tracking ≡ Some target
+
+-- This is among the sendings of an entry.
+pub record IsSentAmong (what : Sending) (entry : ℕ) (ss : List (ℕ × Sending)) : Type 0 where
+  pub before : List (ℕ × Sending)
+  pub behind : List (ℕ × Sending)
+  pub is : ss ≡ before ++ (entry, what) ∷ behind
+
+-- On the third protocol a connection that redirects its messages to one that has ended is sent the
+-- notice that names this one by each entry that tells it of a key (the page of CLIENT TRACKING,
+-- REDIRECT).
+abbrev pub BrokenIsTold : Type 0
+BrokenIsTold =
+    (l : Limits) (entry : Entry) (past : List Entry) (c target : ℕ) (key : List ℕ)
+    → runs_on l past c ≡ true
+    → RedirectsTo target (mode l c past) → is_on (state l past) target ≡ false
+    → is_due l entry past c key ≡ true
+    → IsSentAmong (Message Three (notice_of target)) (length past + 1)
+    (sent_to (length past + 1) c (sends l entry (state l past)))
+
+-- the connection that messages are redirected to has ended
+abbrev pub is_lost : State → Option ℕ → Bool
+is_lost s None = false
+is_lost s (Some target) = not (is_on s target)
+
+-- the words are RESET, or CLIENT TRACKING, which the mode allows and does not refuse
+abbrev pub sets_anew : Result Command WordFault → Runner → Bool
+sets_anew (Ok (ClientTracking o)) by =
+    not (is_confined by.mode)
+    && not (is_some (tracking_fault o by.target_exists by.mode.tracking))
+sets_anew (Ok Reset) by = true
+sets_anew read by = false
+
+abbrev pub is_set_anew : Limits → Entry → List Entry → ℕ → Bool
+is_set_anew l (entry.Run id words moment) past c =
+    (id == c) && sets_anew (served_reading words) (runner l past id words moment)
+is_set_anew l _ past c = false
+
+-- A connection's redirection is broken behind an entry exactly where it was, or the entry tells the
+-- connection while the target has ended; but not where the connection sets its tracking anew
+-- (CLIENT TRACKINGINFO, broken_redirect).
+abbrev pub BrokenIsLost : Type 0
+BrokenIsLost =
+    (l : Limits) (entry : Entry) (past : List Entry) (c : ℕ)
+    → (state l (entry ∷ past)).broken c
+    ≡ (((state l past).broken c
+    || (list_any (λ i. i.to == c) (invalidations l entry past)
+    && is_lost (state l past) (redirect_of (mode l c past).tracking)))
+    && not (is_set_anew l entry past c))
 
 -- So it is sent one of each key that is signalled to a connection that is told of it.
 abbrev pub ToldIsSent : Type 0
@@ -431,6 +502,7 @@ ReadIsOwedOrTold =
     (l : Limits) (c moment : ℕ) (words : List (List ℕ)) (past : List Entry) (key : List ℕ)
     → IsLegal l (entry.Run c words moment ∷ past)
     → reads_as_cacheable (served_reading words) ≡ true
+    → is_confined (mode l c past) ≡ false
     → remembers_read (mode l c past) ≡ true
     → key_of words ≡ key
     → (is_told l (entry.Run c words moment ∷ past) c key

@@ -1,15 +1,15 @@
 -- What a connection's own commands make of it, and of what is kept for it (the pages
--- of HELLO, CLIENT TRACKING, QUIT and SHUTDOWN).
+-- of HELLO, CLIENT TRACKING, SUBSCRIBE, QUIT and SHUTDOWN).
 use Rattle.std.specs.Prelude.{ℕ, List, [], ◌∷◌, Option, Some, None, Result, Ok, Err, pos, codes}
 use Rattle.std.specs.Prelude.{is_some, if◌then◌else◌, Bool, true, false, not, ◌&&◌, ℤ, negsuc}
 use Rattle.std.specs.Prelude.{map}
 use Rattle.std.specs.Option.{option_map_or}
 use Rattle.std.specs.Str.{bytes_eq}
 use Rattle.resp_value.specs.declared.value.Value.{Value}
-use Rattle.resp_value.specs.declared.value.Value.TheVariants.{Blob, Error, Map, Simple}
+use Rattle.resp_value.specs.declared.value.Value.TheVariants.{Array, Blob, Error, Map, Push, Simple}
 use Rattle.resp_value.specs.declared.value.Proto.{Proto}
 use Rattle.resp_value.specs.declared.value.Proto.TheVariants.{Two, Three}
-use Rattle.resp_value.specs.Tree.{Tree, blob, number, array, set, end, trees_of}
+use Rattle.resp_value.specs.Tree.{Tree, blob, number, null, array, set, end, trees_of}
 use Rattle.command_words.specs.declared.command.Command.{Command}
 use Rattle.command_words.specs.declared.command.Command.TheVariants.{ClientTracking, Reset}
 use Rattle.command_words.specs.declared.command.Command.TheVariants as command
@@ -21,7 +21,8 @@ use Rattle.track_modes.specs.declared.fault.ModeFault.{ModeFault}
 use Rattle.track_modes.specs.declared.tracking.Tracking.{Tracking}
 use Rattle.track_modes.specs.declared.tracking.Tracking.TheVariants.{Off, On}
 use Rattle.track_modes.specs.ModeState.{ModeState, flags, prefixes_of, remembers_read}
-use Rattle.track_modes.specs.Commands.{after_refusal, changed, ended, fault_at, spent_mode}
+use Rattle.track_modes.specs.Commands.{after_refusal, allows, changed, channel, ended, fault_at}
+use Rattle.track_modes.specs.Commands.{is_two, spent_mode}
 use Rattle.track_modes.specs.Texts.{mode_fault_text}
 use Rattle.track_modes.specs.Tracked.{tracked}
 
@@ -60,11 +61,8 @@ hello_reply id (Err text) = Error text
 
 -- ---- tracking
 
--- with OFF the options are read and have no effect; REDIRECT concerns another connection
-abbrev pub is_served_tracking : TrackOptions → Bool
-is_served_tracking o = not (o.on && is_some o.redirect)
-
--- the connection that a command names as the target of a redirection
+-- the connection that a command names as the target of a redirection; with OFF the options are read
+-- and have no effect
 abbrev pub target_in : TrackOptions → Option ℕ
 target_in o = if o.on then o.redirect else None
 
@@ -79,9 +77,15 @@ accepted (Some fault) = Error (mode_fault_text fault)
 
 -- ---- what a connection is told of the server and of itself
 
-abbrev pub pong : Option (List ℕ) → Value
-pong None = Simple (codes "PONG")
-pong (Some text) = Blob text
+-- subscribed on the second protocol a connection is sent messages, and replies in their form
+abbrev pub is_confined : ModeState → Bool
+is_confined m = is_two m.proto && m.subscribed
+
+abbrev pub pong : ModeState → Option (List ℕ) → Value
+pong m text =
+    if is_confined m
+    then Array (blob (codes "pong") ∷ blob (option_map_or (λ t. t) text []) ∷ [])
+    else option_map_or Blob text (Simple (codes "PONG"))
 
 -- the connection that messages are redirected to: 0 where there is none, -1 where tracking is off
 -- (CLIENT GETREDIR)
@@ -96,6 +100,29 @@ tracking_info is_broken m =
     ∷ (blob (codes "redirect"), number (redirect_number m.tracking))
     ∷ (blob (codes "prefixes"), array (trees_of (map blob (prefixes_of m.tracking))))
     ∷ []
+
+-- ---- the channel of invalidations (SUBSCRIBE, UNSUBSCRIBE)
+
+-- what is subscribed to and left: the word, the channel, and to how many the connection is then
+-- subscribed
+abbrev pub subscription : List ℕ → Tree → Bool → Value
+subscription word channel subscribed =
+    Push (blob word ∷ channel ∷ number (pos (if subscribed then 1 else 0)) ∷ [])
+
+abbrev pub subscribe_reply : List ℕ → Value
+subscribe_reply c =
+    if bytes_eq c channel then subscription (codes "subscribe") (blob c) true
+    else Error (codes "ERR channel not served")
+
+-- without a channel it leaves the one that it is subscribed to, if it is
+abbrev pub left_channel : Option (List ℕ) → Bool → Tree
+left_channel (Some c) subscribed = blob c
+left_channel None subscribed = if subscribed then blob channel else null
+
+abbrev pub unsubscribe_reply : Option (List ℕ) → ModeState → Value
+unsubscribe_reply c m =
+    subscription (codes "unsubscribe") (left_channel c m.subscribed)
+    (changed (command.Unsubscribe c) m).subscribed
 
 -- ---- what a command makes of its connection
 
@@ -140,11 +167,20 @@ unless_refused None command m =
 unless_refused (Some fault) command m =
     record { mode = after_refusal fault m; memory = Remembers [] }
 
--- each mode that comes about allows each command that is served
+-- words that are refused end what CLIENT CACHING said, and do no more
+abbrev pub refused_effect : ModeState → OwnEffect
+refused_effect m = record { mode = spent_mode m; memory = Remembers [] }
+
+-- of a command that the mode allows
 abbrev pub own_effect : Result Command WordFault → Runner → OwnEffect
 own_effect (Ok command) by =
     unless_refused (fault_at command by.target_exists by.mode) command by.mode
-own_effect (Err fault) by = record { mode = spent_mode by.mode; memory = Remembers [] }
+own_effect (Err fault) by = refused_effect by.mode
+
+-- the mode does not allow the command that words read as (the page of SUBSCRIBE)
+abbrev pub is_barred : ModeState → Result Command WordFault → Bool
+is_barred m (Ok command) = not (allows m command)
+is_barred m (Err fault) = false
 
 -- whether its connection quits by a command, or all end by it
 pub data Ending : Type 0 where

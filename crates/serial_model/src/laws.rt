@@ -1,12 +1,14 @@
 //! What follows for any list of turns. Each function's contract is the law; none has work to do.
-ghost use Rattle.serial_model.specs.Laws.{BeforeTheReply, ChangeIsSignalled, CloseGivesUp};
+ghost use Rattle.serial_model.specs.Laws.{BeforeTheReply, BrokenIsLost, BrokenIsTold};
+ghost use Rattle.serial_model.specs.Laws.{ChangeIsSignalled, CloseGivesUp};
 ghost use Rattle.serial_model.specs.Laws.{DueIsPushed, DueIsSent};
 ghost use Rattle.serial_model.specs.Laws.{EachRunOnce, EndIsAtItsEntry, EndIsLast, EndIsSent};
 ghost use Rattle.serial_model.specs.Laws.{FreshIsFirst, FreshIsSentNothing, GivenIsStream};
 ghost use Rattle.serial_model.specs.Laws.{LegalIsAdded, LimitIsKept, MessagesAreLive};
 ghost use Rattle.serial_model.specs.Laws.{ModeByOwnRuns, NextAfterMark, OthersExtend, PostedIsSent};
 ghost use Rattle.serial_model.specs.Laws.{PostsAreNumbered, ReadIsOwedOrTold, ReadReplies};
-ghost use Rattle.serial_model.specs.Laws.{RegisteredIsMode, ReplyBehindExpiry, RunsLive, SentGrows};
+ghost use Rattle.serial_model.specs.Laws.{RegisteredIsMode, ReplyBehindExpiry, ResetRenews};
+ghost use Rattle.serial_model.specs.Laws.{RunsLive, SentGrows};
 ghost use Rattle.serial_model.specs.Laws.{ToldEndsForCause, ToldIsDue, ToldIsSent};
 ghost use Rattle.serial_model.specs.Laws.{WaitingIsUnsent};
 
@@ -57,6 +59,11 @@ pub fn law_mode_by_own_runs()
 /// What CLIENT CACHING says is in force for a Run exactly where it is its connection's Run before.
 pub fn law_next_after_mark()
     ensures { NextAfterMark }
+{}
+
+/// RESET leaves its connection the mode with which it was admitted, and no broken redirection.
+pub fn law_reset_renews()
+    ensures { ResetRenews }
 {}
 
 /// What was sent only grows, and what an entry adds has the number of that entry.
@@ -148,10 +155,22 @@ pub fn law_due_is_sent()
     ensures { DueIsSent }
 {}
 
-/// On the third protocol a connection is sent a push of each key that an entry tells it of, while
-/// no redirection is served.
+/// On the third protocol a connection that redirects its messages to none is sent a push of each
+/// key that an entry tells it of.
 pub fn law_due_is_pushed()
     ensures { DueIsPushed }
+{}
+
+/// On the third protocol a connection that redirects its messages to one that has ended is sent the
+/// notice of that by each entry that tells it of a key.
+pub fn law_broken_is_told()
+    ensures { BrokenIsTold }
+{}
+
+/// A redirection is broken from the first entry that tells its connection while the target has
+/// ended, until the connection sets its tracking anew.
+pub fn law_broken_is_lost()
+    ensures { BrokenIsLost }
 {}
 
 /// So it is sent one of each key that is signalled to a connection that is told of it.

@@ -1,7 +1,7 @@
 -- How each turn keeps what a book knows of its history.
 use Rattle.std.proofs.Common.{◌≡◌, ◌+◌, ◌-◌, ◌<◌, ◌≤◌, ℕ, List, [], ◌∷◌, ◌++◌, length, take, drop}
 use Rattle.std.proofs.Common.{sym, subst}
-use Rattle.std.proofs.Common.{ap, ◌∙◌, refl, arith, true, false, cond, length-append}
+use Rattle.std.proofs.Common.{ap, ◌∙◌, refl, arith, Bool, true, false, cond, length-append}
 use Rattle.std.proofs.Common.{ne_eqb, eq-eqb, length-set, Option, Some, Result, Err, max}
 use Rattle.std.proofs.Common.{slice_index_or, inl, inr}
 use Prim.Native.Nat.{suc}
@@ -41,12 +41,12 @@ use Rattle.serial_model.specs.State.{keeps_bytes, closed as closed_of}
 use Rattle.serial_model.specs.Steps.{book_step, AddsEntry, BookStep}
 use Rattle.serial_model.proofs.Fresh.{fresh_is_first}
 use Rattle.serial_model.proofs.KeptTables.{is_table}
-use Rattle.serial_model.proofs.PlainActions.{none_dropped}
+use Rattle.serial_model.proofs.ActionSends.{none_dropped}
 use Rattle.serial_model.proofs.Turning.{admit_step, run_step, take_step, close_step}
 use Rattle.serial_model.proofs.Streams.{admitted_id, runs_read, unsent_admit, unsent_fresh}
 use Rattle.serial_model.proofs.Streams.{unsent_close_own, unsent_close_other}
 use Rattle.serial_model.proofs.Streams.{unsent_taken, unsent_take_other}
-use Rattle.server_book.specs.Places.{Connection, fresh, gone, kept_mode}
+use Rattle.server_book.specs.Places.{Connection, fresh, gone, kept_broken, kept_mode}
 use Rattle.server_book.specs.Connections.{IsId, IsOpen, connection_at, with_connection, is_open}
 use Rattle.server_book.specs.Sendings.{end_posts}
 use Rattle.server_book.specs.Stores.{IsHeld}
@@ -63,13 +63,18 @@ use Rattle.server_book.specs.Log.{LogState}
 -- ---- a connection by its id
 
 -- connections of equal parts
-pub same_parts : {q r : List ℕ} {a b : Standing} {m n : ModeState} → q ≡ r → a ≡ b → m ≡ n
-    → (let x : Connection = record { queue = q; standing = a; mode = m } in
-    let y : Connection = record { queue = r; standing = b; mode = n } in x ≡ y)
-same_parts {q} {r} {a} {b} {m} {n} e f g = grind arith
+pub same_parts : {q r : List ℕ} {a b : Standing} {m n : ModeState} {x y : Bool} → q ≡ r → a ≡ b
+    → m ≡ n → x ≡ y
+    → (let c : Connection = record { queue = q; standing = a; mode = m; is_broken = x } in
+    let d : Connection = record { queue = r; standing = b; mode = n; is_broken = y } in c ≡ d)
+same_parts {q} {r} {a} {b} {m} {n} {x} {y} e f g h = grind arith
 
 pub same_kept : {a b : Standing} {m n : ModeState} → a ≡ b → m ≡ n → kept_mode a m ≡ kept_mode b n
 same_kept {a} {b} {m} {n} e f = grind arith
+
+pub same_broken : {a b : Standing} {x y : Bool} → a ≡ b → x ≡ y
+    → kept_broken a x ≡ kept_broken b y
+same_broken {a} {b} {x} {y} e f = grind arith
 
 pub live_mode : (x : Standing) (m : ModeState) → keeps_bytes x ≡ true → kept_mode x m ≡ m
 live_mode x m on = grind arith
@@ -77,23 +82,30 @@ live_mode x m on = grind arith
 gone_mode : (x : Standing) (m : ModeState) → kept_mode (closed_of x) m ≡ new_mode
 gone_mode x m = grind arith
 
+gone_broken : (x : Standing) (b : Bool) → kept_broken (closed_of x) b ≡ false
+gone_broken x b = grind arith
+
+never_broken : (x : Standing) (b : Bool) → b ≡ false → kept_broken x b ≡ false
+never_broken x b h = grind arith
+
 -- ---- what is kept of a connection, entry by entry
 
 module _ (l : Limits) (past : List Entry) (c : ℕ) where
   pub kept_admit : (id : ℕ) → connection_of l (entry.Admit id ∷ past) c ≡ connection_of l past c
   unfolding state
-  kept_admit id = same_parts (unsent_admit l past c id) refl refl
+  kept_admit id = same_parts (unsent_admit l past c id) refl refl refl
 
   pub kept_fresh : IsLegal l past → admitted past < c → connection_of l past c ≡ fresh
   kept_fresh h lt =
       let first = fresh_is_first l c past h lt in
       same_parts (unsent_fresh l past c h lt) first.standing
       (same_kept first.standing first.mode)
+      (never_broken ((state l past).standing c) ((state l past).broken c) first.broken)
 
   pub kept_take_other : (id m : ℕ) → (id == c) ≡ false
       → connection_of l (entry.Take id m ∷ past) c ≡ connection_of l past c
   unfolding state
-  kept_take_other id m other = same_parts (unsent_take_other l past c id m other) refl refl
+  kept_take_other id m other = same_parts (unsent_take_other l past c id m other) refl refl refl
 
   pub kept_close_other : (id : ℕ) → (id == c) ≡ false
       → connection_of l (entry.Close id ∷ past) c ≡ connection_of l past c
@@ -102,6 +114,7 @@ module _ (l : Limits) (past : List Entry) (c : ℕ) where
       let s = state l past in
       let stays = ap (λ b. cond b (closed_of (s.standing id)) (s.standing c)) other in
       same_parts (unsent_close_other l past c id other) stays (same_kept stays refl)
+      (same_broken stays refl)
 
 module _ (l : Limits) (past : List Entry) (id : ℕ) where
   same_id : (id == id) ≡ true
@@ -111,7 +124,7 @@ module _ (l : Limits) (past : List Entry) (id : ℕ) where
       → (let c = connection_of l past id in
       connection_of l (entry.Take id m ∷ past) id ≡ record c { queue = drop m c.queue })
   unfolding state
-  kept_take m = same_parts (unsent_taken l past id id m same_id) refl refl
+  kept_take m = same_parts (unsent_taken l past id id m same_id) refl refl refl
 
   pub kept_close : (let c = connection_of l past id in
       connection_of l (entry.Close id ∷ past) id
@@ -122,6 +135,7 @@ module _ (l : Limits) (past : List Entry) (id : ℕ) where
       let ends = ap (λ b. cond b (closed_of (s.standing id)) (s.standing id)) same_id in
       same_parts (unsent_close_own l past id id same_id) ends
       (same_kept ends refl ∙ gone_mode (s.standing id) (s.modes id))
+      (same_broken ends refl ∙ gone_broken (s.standing id) (s.broken id))
 
 -- ---- room for closes
 
@@ -314,9 +328,9 @@ fresh_agrees l = record {
 pub begins : (l : Limits) (log : LogState) (stores : Stores) → log.past ≡ []
     → log.most ≡ l.history_max → stores.space ≡ empty
     → stores.table ≡ record { limit = l.table_max; rows = [] } → stores.prefixes ≡ []
-    → stores.connections.items ≡ []
+    → stores.connections.items ≡ [] → stores.connections.lost ≡ []
     → IsBook l log stores
-begins l log stores none most space rows unregistered nobody = record {
+begins l log stores none most space rows unregistered nobody none_lost = record {
   agrees = subst (λ p. Agrees l p stores.space stores.table stores.prefixes
       stores.connections.items) (sym none)
       (subst (λ s. Agrees l [] s stores.table stores.prefixes stores.connections.items) (sym space)
@@ -327,6 +341,7 @@ begins l log stores none most space rows unregistered nobody = record {
       (fresh_agrees l)))));
   most_is = most;
   room = subst (HasRoom log.closable) (sym nobody) (omega arith);
+  none_lost = none_lost;
 }
 
 pub table_close : (l : Limits) (past : List Entry) (id : ℕ)
@@ -442,7 +457,8 @@ module _ (l : Limits) (past : List Entry) (id now : ℕ) (words : List (List ℕ
   t = run_action id words moment (state l past)
 
   pub effect_run : (n : ℕ) (command : Option Command) (done : RunDone) → n ≡ length past + 1
-      → command ≡ command_of (served_reading words) → done.expired ≡ t.expired
+      → command ≡ command_of ((state l past).modes id) (served_reading words)
+      → done.expired ≡ t.expired
       → Some done.reply ≡ t.effect.reply → done.signalled ≡ t.effect.signalled
       → (let e : Effect = record {
         entry = n;
@@ -503,7 +519,7 @@ module _ (l : Limits) (past new : List Entry) (posts sent : List Post) (was : Op
 -- and once its effect is told
 pub run_told : (old mid : BookState) (id now : ℕ) (words : List (List ℕ)) (done : RunDone)
     (command : Option Command) → HasRun old id words now done mid
-    → command ≡ command_of (served_reading words)
+    → command ≡ command_of ((state old.limits old.past).modes id) (served_reading words)
     → (let e : Effect = record {
       entry = done.entry;
       id = id;

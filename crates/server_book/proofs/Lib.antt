@@ -1,11 +1,14 @@
 pub mod Keeping
 pub mod Refusals
 pub mod Sendings
+pub mod Routing
 pub mod Remembered
 pub mod Groups
 pub mod PrefixGroups
 pub mod Undoing
+pub mod QuietDeeds
 pub mod BookTurns
 pub mod Runs
 pub mod Ticks
 pub mod Plans
+pub mod Callers

@@ -1,12 +1,13 @@
 -- Telling the connections of one prefix after another.
 use Rattle.std.proofs.Common.{◌≡◌, ◌+◌, ◌<◌, ℕ, List, [], ◌∷◌, ◌++◌, length, take, refl, ap, sym}
-use Rattle.std.proofs.Common.{◌∙◌, arith, append-nil, append_assoc, length-append, Bool, true}
+use Rattle.std.proofs.Common.{◌∙◌, arith, append-nil, append_assoc, Bool, true}
 use Rattle.std.proofs.Common.{cond, eqb-true, false, slice_index_or, None, Some}
 use Rattle.std.specs.Prelude.{◌==◌, filter, nat_eq}
 use Rattle.std.specs.List.{flat_map, list_any, range_with_len, starts_with}
 use Prim.Native.Nat.{zero, suc}
 use Rattle.prefix_table.specs.declared.table.Registration.{Registration}
 use Rattle.prefix_table.specs.Table.{nothing, places_of_any, row_at, starts_with_at}
+use Rattle.serial_model.proofs.PrefixGroups as by_place
 use Rattle.serial_model.specs.Tracking.{Invalidation, prefix_group, told_some, told_to}
 use Rattle.server_book.specs.Sendings.{told_at}
 
@@ -22,54 +23,35 @@ some_told : (test : List ℕ → Bool) (keys : List (List ℕ)) (ids : List ℕ)
 some_told test [] ids = refl
 some_told test (key ∷ keys) ids = grind (arith, some_told test keys ids)
 
-at_behind : (before : List Registration) (r : Registration) (rs : List Registration)
-    → slice_index_or (before ++ r ∷ rs) (length before) nothing ≡ r
-at_behind [] r rs = refl
-at_behind (b ∷ before) r rs = at_behind before r rs
+module _ (keys : List (List ℕ)) (rs : List Registration) where
+  abbrev is_any : ℕ → Bool
+  is_any n = list_any (λ key. starts_with_at key rs n) keys
 
-first_of : (b : Bool) (told : ℕ → List Invalidation) (n : ℕ) (ns : List ℕ)
-    → flat_map told (cond b (n ∷ ns) ns) ≡ cond b (told n) [] ++ flat_map told ns
-first_of true told n ns = refl
-first_of false told n ns = refl
+  -- where a key starts with the prefix at a place there is one
+  at_place : (n : ℕ) → is_any n ≡ true → told_at keys rs n ≡ by_place.told_at keys rs n
+  at_place n h =
+      let r = slice_index_or rs n nothing in
+      let some = filter (λ key. starts_with nat_eq key r.prefix) keys in
+      ap (λ b. cond b (told_to (Some some) r.ids) []) (sym h)
+      ∙ some_told (λ key. starts_with nat_eq key r.prefix) keys r.ids
 
-module _ (keys : List (List ℕ)) where
-  abbrev is_any : List Registration → ℕ → Bool
-  is_any rs n = list_any (λ key. starts_with_at key rs n) keys
-
-  -- those of the rows from a place on
-  abbrev told_from : List Registration → ℕ → ℕ → List Invalidation
-  told_from rs n m = flat_map (told_at keys rs) (filter (is_any rs) (range_with_len n m))
-
-  abbrev told_row : Registration → List Invalidation
-  told_row r = told_some (filter (λ key. starts_with nat_eq key r.prefix) keys) r.ids
-
-  row_is : (x r : Registration) → x ≡ r
-      → cond (list_any (λ key. starts_with nat_eq key x.prefix) keys)
-      (told_to (Some (filter (λ key. starts_with nat_eq key x.prefix) keys)) x.ids) []
-      ≡ told_row r
-  row_is x r e =
-      some_told (λ key. starts_with nat_eq key x.prefix) keys x.ids ∙ ap told_row e
-
-  rows_from : (before rs : List Registration)
-      → told_from (before ++ rs) (length before) (length rs) ≡ prefix_group keys rs
-  rows_from before [] = refl
-  rows_from before (r ∷ rs) =
-      let all = before ++ r ∷ rs in
-      let n = length before in
-      first_of (is_any all n) (told_at keys all) n
-      (filter (is_any all) (range_with_len (n + 1) (length rs)))
-      ∙ ap (λ x. x ++ told_from all (n + 1) (length rs))
-      (row_is (slice_index_or all n nothing) r (at_behind before r rs))
-      ∙ ap (λ x. told_row r ++ x)
-      (ap (λ x. told_from x (n + 1) (length rs)) (sym (append_assoc before (r ∷ []) rs))
-      ∙ ap (λ x. told_from ((before ++ r ∷ []) ++ rs) x (length rs))
-      (sym (length-append before (r ∷ [])))
-      ∙ rows_from (before ++ r ∷ []) rs)
+  each_place : (ns : List ℕ) → flat_map (told_at keys rs) (filter is_any ns)
+      ≡ flat_map (by_place.told_at keys rs) (filter is_any ns)
+  each_place [] = refl
+  each_place (n ∷ ns) =
+      elim (is_any n) as (λ b. is_any n ≡ b
+      → flat_map (told_at keys rs) (cond b (n ∷ filter is_any ns) (filter is_any ns))
+      ≡ flat_map (by_place.told_at keys rs) (cond b (n ∷ filter is_any ns) (filter is_any ns))) [
+        | true ↦ λ e.
+            ap (λ x. x ++ flat_map (told_at keys rs) (filter is_any ns)) (at_place n e)
+            ∙ ap (λ x. by_place.told_at keys rs n ++ x) (each_place ns)
+        | false ↦ λ e. each_place ns
+      ] refl
 
   -- place by place, all whose prefix one of the keys starts with are told
-  pub group_is : (rs : List Registration)
-      → flat_map (told_at keys rs) (places_of_any keys rs) ≡ prefix_group keys rs
-  group_is rs = rows_from [] rs
+  pub group_is : flat_map (told_at keys rs) (places_of_any keys rs) ≡ prefix_group keys rs
+  group_is =
+      each_place (range_with_len 0 (length rs)) ∙ sym (by_place.prefix_group_is keys rs)
 
 -- the connections at one place more
 pub places_next : (told : ℕ → List Invalidation) (places : List ℕ) (k : ℕ) → k < length places

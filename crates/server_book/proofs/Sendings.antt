@@ -1,36 +1,32 @@
 -- What sendings do to each connection, and that taking them back undoes them.
-use Rattle.std.proofs.Common.{◌≡◌, ◌+◌, ◌-◌, ◌<◌, ◌≤◌, ℕ, List, [], ◌∷◌, ◌++◌, length, take, sym}
+use Rattle.std.proofs.Common.{◌≡◌, ◌-◌, ◌<◌, ◌≤◌, ℕ, List, [], ◌∷◌, ◌++◌, length, take, sym}
 use Rattle.std.proofs.Common.{ap, ◌∙◌, refl, arith, true, false, cond, Bool, length-append}
 use Rattle.std.proofs.Common.{length-set, slice_index_or, slice_set, append_assoc, append-nil, inl}
-use Rattle.std.proofs.Common.{inr, eq-eqb, ne_eqb, Result, OnErr, OnOk, Option, Some, None}
-use Rattle.std.specs.Prelude.{◌==◌, ◌&&◌, nat_lt, nat_le, not}
+use Rattle.std.proofs.Common.{inr, eq-eqb, ne_eqb, Result, OnErr, OnOk}
+use Rattle.std.specs.Prelude.{◌==◌, ◌&&◌, ◌||◌}
 use Prim.Native.Nat.{zero, suc}
-use Rattle.std.proofs.lemmas.Bool.{cases_eq, and_parts}
+use Rattle.std.proofs.lemmas.Bool.{cases_eq}
 use Rattle.std.proofs.lemmas.Bool.Decides.{nat_tests}
 use Rattle.std.proofs.lemmas.List.{get_or-set_same, get_or-set_other, set-get_or}
 use Rattle.std.proofs.Math.Seq.{take-append_seam}
-use Rattle.resp_value.specs.declared.value.Proto.TheVariants.{Three}
-use Rattle.track_modes.specs.ModeState as track
-use Rattle.track_modes.specs.ModeState.{ModeState}
-use Rattle.redirect.specs.Messages.{push_of}
 use Rattle.serial_model.specs.declared.history.Post.{Post}
-use Rattle.serial_model.specs.declared.standing.Standing.{Standing}
-use Rattle.serial_model.specs.Tracking.{Invalidation, told_to, ids_where}
-use Rattle.serial_model.specs.Actions.{Sending, Message, End, sending_bytes, spelled}
+use Rattle.serial_model.specs.Tracking.{has_id, ids_where}
+use Rattle.serial_model.specs.Actions.{Sending, End, sending_bytes}
 use Rattle.serial_model.specs.History.{posted_of, sent_bytes, sent_to, posts_of}
-use Rattle.serial_model.specs.Plain.{is_three, pushed, pushes}
-use Rattle.serial_model.specs.State.{is_live}
 use Rattle.serial_model.specs.Each.{AllIn}
 use Rattle.serial_model.proofs.Each.{all_in, in_append}
-use Rattle.server_book.specs.Places.{Connection, fresh, kept_mode}
+use Rattle.server_book.specs.Places.{Connection, fresh, lost_one}
 use Rattle.server_book.specs.Connections.{ConnectionsState, IsId, connection_at, with_connection}
-use Rattle.server_book.specs.Connections.{is_there, ArePosted, IsOpen}
-use Rattle.server_book.specs.Sendings.{is_pushed, is_told, queued, with_sending, with_sendings}
-use Rattle.server_book.specs.Sendings.{unqueued, before_posts, size_of, message_post, end_post}
+use Rattle.server_book.specs.Connections.{is_open, is_there, ArePosted, IsOpen}
+use Rattle.server_book.specs.Sendings.{queued, with_sending, with_sendings, marked, marked_one}
+use Rattle.server_book.specs.Sendings.{unqueued, before_posts, size_of, end_post}
 
 -- what holds holds of an error, and of a success
 pub on_err : {A E : Type 0} (r : Result A E) (P : Type 0) → P → OnErr r P
 on_err r P h = grind arith
+
+pub on_ok : {A E : Type 0} (r : Result A E) (P : Type 0) → P → OnOk r P
+on_ok r P h = grind arith
 
 pub on_ok_then : {A E : Type 0} (r : Result A E) (P Q : Type 0) → (P → Q) → OnOk r P → OnOk r Q
 on_ok_then r P Q f h = grind arith
@@ -200,74 +196,8 @@ sent_at n i (s ∷ ss) state on h =
       | inr ne ↦ grind (arith, more, at_other, ne_eqb)
     ]
 
--- ---- who is sent a push
-
--- whether a connection of this mode and standing is sent one
-abbrev test_of : Bool → ModeState → Standing → Bool
-test_of there m x = (track.is_on m.tracking && (there && is_live x)) && is_three m.proto
-
-pub test_same : (a b : Bool) (m n : ModeState) (x y : Standing) → a ≡ b
-    → (a ≡ true → (m ≡ n) × (x ≡ y)) → test_of a m x ≡ test_of b n y
-test_same true b m n x y e f =
-    let p = f refl in
-    ap (λ z. test_of z m x) e ∙ ap (λ z. test_of b z x) p.0 ∙ ap (test_of b n) p.1
-test_same false b m n x y e f = grind arith
-
--- no mode is asked of one that has ended
-pub test_kept : (a : Bool) (m : ModeState) (x : Standing)
-    → test_of a (kept_mode x m) x ≡ test_of a m x
-test_kept a m x = grind arith
-
 pub is_there_id : (cs : List Connection) (id : ℕ) → is_there cs id ≡ true → IsId cs id
 is_there_id cs id h = grind (arith, nat_tests)
-
-pub pushed_id : (cs : List Connection) (id : ℕ) → is_pushed cs id ≡ true → IsId cs id
-pushed_id cs id h = grind (arith, nat_tests)
-
-told_id : (but : Option ℕ) (cs : List Connection) (id : ℕ) → is_told but cs id ≡ true → IsId cs id
-told_id None cs id h = pushed_id cs id h
-told_id (Some passed) cs id h = pushed_id cs id (and_parts (is_pushed cs id) _ h).0
-
-one_there : (but : Option ℕ) (cs : List Connection) (i : Invalidation)
-    → AreTo cs (pushed (is_told but cs) i)
-one_there but cs i = elim (is_told but cs i.to) as (λ b. is_told but cs i.to ≡ b
-    → AreTo cs (cond b ((i.to, Message Three (push_of i.keys)) ∷ []) [])) [
-      | true ↦ λ e. (told_id but cs i.to e, tt)
-      | false ↦ λ e. tt
-    ] refl
-
-pub pushes_there : (but : Option ℕ) (cs : List Connection) (is : List Invalidation)
-    → AreTo cs (pushes (is_told but cs) is)
-pushes_there but cs [] = tt
-pushes_there but cs (i ∷ is) =
-    in_append (λ (s : ℕ × Sending). IsId cs s.0) (pushed (is_told but cs) i)
-    (pushes (is_told but cs) is) (one_there but cs i) (pushes_there but cs is)
-
--- tests that agree
-pub pushes_same : (f g : ℕ → Bool) (is : List Invalidation) → ((id : ℕ) → f id ≡ g id)
-    → pushes f is ≡ pushes g is
-pushes_same f g [] same = refl
-pushes_same f g (i ∷ is) same = grind (arith, pushes_same f g is same)
-
--- sendings leave who is sent a push
-module _ (n : ℕ) (ss : List (ℕ × Sending)) (old : ConnectionsState) (to : AreTo old.items ss) where
-  abbrev ds : List Connection
-  ds = (with_sendings n ss old).items
-
-  pub pushed_same : (id : ℕ) → is_pushed ds id ≡ is_pushed old.items id
-  pushed_same id =
-      sym (test_same (is_there old.items id) (is_there ds id) (connection_at old.items id).mode
-      (connection_at ds id).mode (connection_at old.items id).standing
-      (connection_at ds id).standing
-      (ap (λ k. nat_lt 0 id && nat_le id k) (sym (length_sendings n ss old)))
-      (λ on. let at = sent_at n id ss old (is_there_id old.items id on) to in (
-        sym (ap (λ (c : Connection). c.mode) at),
-        sym (ap (λ (c : Connection). c.standing) at),
-      )))
-
-  pub told_same : (but : Option ℕ) (id : ℕ) → is_told but ds id ≡ is_told but old.items id
-  told_same None id = pushed_same id
-  told_same (Some passed) id = ap (λ b. b && not (passed == id)) (pushed_same id)
 
 -- ---- the end of a connection that quits
 
@@ -280,77 +210,10 @@ queued_nothing cs id =
 pub end_sent : (n id : ℕ) (st : ConnectionsState)
     → record st { posts = st.posts ++ end_post n id ∷ [] } ≡ with_sendings n ((id, End) ∷ []) st
 end_sent n id st =
-    ap (λ (cs : List Connection). record { items = cs; posts = st.posts ++ end_post n id ∷ [] })
-    (sym (queued_nothing st.items id))
-
--- ---- telling one holder after another
-
-pub told_next : (test : ℕ → Bool) (keys : Option (List (List ℕ))) (ids : List ℕ) (n : ℕ)
-    → n < length ids
-    → (let id = slice_index_or ids n 0 in
-    pushes test (told_to keys (take (n + 1) ids))
-    ≡ pushes test (told_to keys (take n ids)) ++ pushed test (record { to = id; keys = keys }))
-told_next test keys [] n lt = absurd (omega arith)
-told_next test keys (id ∷ ids) zero lt = grind (arith, append-nil)
-told_next test keys (id ∷ ids) (suc n) lt =
-    grind (arith, slice_index_or, append_assoc, told_next test keys ids n (omega arith))
-
--- what the first holders of a key are sent
-abbrev pub told_first : Option ℕ → List Connection → Option (List (List ℕ)) → List ℕ → ℕ
-    → List (ℕ × Sending)
-told_first but cs keys ids k = pushes (is_told but cs) (told_to keys (take k ids))
-
-pub first_there : (but : Option ℕ) (cs : List Connection) (keys : Option (List (List ℕ)))
-    (ids : List ℕ) (k : ℕ) → AreTo cs (told_first but cs keys ids k)
-first_there but cs keys ids k = pushes_there but cs (told_to keys (take k ids))
-
-module _ (n : ℕ) (but : Option ℕ) (keys : Option (List (List ℕ))) (ids : List ℕ) (k : ℕ)
-    (old now : ConnectionsState) (lt : k < length ids)
-    (so_far : now ≡ with_sendings n (told_first but old.items keys ids k) old) where
-  abbrev id : ℕ
-  id = slice_index_or ids k 0
-
-  abbrev first : List (ℕ × Sending)
-  first = told_first but old.items keys ids k
-
-  test_is : is_told but now.items id ≡ is_told but old.items id
-  test_is =
-      ap (λ (s : ConnectionsState). is_told but s.items id) so_far
-      ∙ told_same n first old (first_there but old.items keys ids k) but id
-
-  abbrev one : Bool → List (ℕ × Sending)
-  one b = cond b ((id, Message Three (push_of keys)) ∷ []) []
-
-  told_step : (next : ConnectionsState)
-      → next ≡ with_sendings n (one (is_told but now.items id)) now
-      → next ≡ with_sendings n (told_first but old.items keys ids (k + 1)) old
-  told_step next sent =
-      sent ∙ ap (λ b. with_sendings n (one b) now) test_is
-      ∙ ap (λ s. with_sendings n (one (is_told but old.items id)) s) so_far
-      ∙ sym (sendings_append n first (one (is_told but old.items id)) old)
-      ∙ ap (λ ss. with_sendings n ss old)
-      (sym (told_next (is_told but old.items) keys ids k lt))
-
-  -- it takes no push, or is passed over
-  pub told_nothing : (next : ConnectionsState) → is_told but now.items id ≡ false → next ≡ now
-      → next ≡ with_sendings n (told_first but old.items keys ids (k + 1)) old
-  told_nothing next off same =
-      told_step next (same ∙ ap (λ b. with_sendings n (one b) now) (sym off))
-
-  -- it takes one
-  pub told_push : (next : ConnectionsState) (push : List ℕ) → is_told but now.items id ≡ true
-      → push ≡ spelled Three (push_of keys)
-      → next ≡ record {
-        items = queued now.items id push;
-        posts = now.posts ++ message_post n id (length push) ∷ [];
-      }
-      → next ≡ with_sendings n (told_first but old.items keys ids (k + 1)) old
-  told_push next push on spelling sent =
-      told_step next
-      (sent ∙ ap (λ p. record {
-        items = queued now.items id p;
-        posts = now.posts ++ message_post n id (length p) ∷ [];
-      }) spelling ∙ ap (λ b. with_sendings n (one b) now) (sym on))
+    ap (λ (cs : List Connection). record st {
+      items = cs;
+      posts = st.posts ++ end_post n id ∷ [];
+    }) (sym (queued_nothing st.items id))
 
 -- ---- those that track
 
@@ -367,3 +230,97 @@ pub unqueued_is : (cs : List Connection) (p : Post) (c new : Connection) (left :
     → new ≡ record c { queue = take left c.queue }
     → slice_set cs (p.id - 1) new ≡ unqueued p cs
 unqueued_is cs p c new left there size kept = grind arith
+
+-- ---- those that were lost
+
+pub ids_set : (cs : List Connection) (at : ℕ) (c : Connection) (ids : List ℕ)
+    → AllIn (IsId cs) ids → AllIn (IsId (slice_set cs at c)) ids
+ids_set cs at c ids h = grind (arith, all_in, id_longer, slice_set, length-set)
+
+pub ids_more : (cs : List Connection) (ids : List ℕ) (id : ℕ) → AllIn (IsId cs) ids → IsId cs id
+    → AllIn (IsId cs) (ids ++ id ∷ [])
+ids_more cs ids id h on = in_append (IsId cs) ids (id ∷ []) h (on, tt)
+
+pub ids_last : (cs : List Connection) (ids : List ℕ) (id : ℕ) → AllIn (IsId cs) (ids ++ id ∷ [])
+    → AllIn (IsId cs) ids × IsId cs id
+ids_last cs [] id h = (tt, h.0)
+ids_last cs (x ∷ ids) id h = let r = ids_last cs ids id h.1 in ((h.0, r.0), r.1)
+
+pub marked_last : (ids : List ℕ) (id : ℕ) (cs : List Connection)
+    → marked (ids ++ id ∷ []) cs ≡ marked ids (marked_one id cs)
+marked_last [] id cs = refl
+marked_last (x ∷ ids) id cs = ap (marked_one x) (marked_last ids id cs)
+
+one_length : (id : ℕ) (cs : List Connection) → length (marked_one id cs) ≡ length cs
+one_length id cs = length-set cs (id - 1) (lost_one (connection_at cs id))
+
+pub marked_length : (ids : List ℕ) (cs : List Connection) → length (marked ids cs) ≡ length cs
+marked_length [] cs = refl
+marked_length (id ∷ ids) cs = one_length id (marked ids cs) ∙ marked_length ids cs
+
+-- one whose redirection is broken, if it was lost and is open
+abbrev pub broken_if : Bool → Connection → Connection
+broken_if lost c = record c { is_broken = (lost && is_open c) || c.is_broken }
+
+lost_if : (c : Connection) → lost_one c ≡ broken_if true c
+lost_if c = elim (is_open c) as (λ b. cond b (record c { is_broken = true }) c
+    ≡ record c { is_broken = (true && b) || c.is_broken }) [ true ↦ refl | false ↦ refl ]
+
+one_at : (id i : ℕ) (cs : List Connection) → IsId cs id → 0 < i
+    → connection_at (marked_one id cs) i ≡ broken_if (id == i) (connection_at cs i)
+one_at id i cs on some =
+    let d = lost_one (connection_at cs id) in
+    elim (cases_eq id i) [
+      | inl e ↦
+          ap (connection_at (marked_one id cs)) (sym e) ∙ at_same cs id d on
+          ∙ lost_if (connection_at cs id)
+          ∙ ap (λ x. broken_if true (connection_at cs x)) e
+          ∙ ap (λ b. broken_if b (connection_at cs i)) (sym (eq-eqb id i e))
+      | inr ne ↦
+          at_other cs id i d on.0 some ne
+          ∙ ap (λ b. broken_if b (connection_at cs i)) (sym (ne_eqb id i ne))
+    ]
+
+twice_broken : (a b : Bool) (c : Connection)
+    → broken_if a (broken_if b c) ≡ broken_if (a || b) c
+twice_broken a b c = grind arith
+
+pub marked_at : (ids : List ℕ) (i : ℕ) (cs : List Connection) → AllIn (IsId cs) ids → 0 < i
+    → connection_at (marked ids cs) i ≡ broken_if (has_id i ids) (connection_at cs i)
+marked_at [] i cs h some = refl
+marked_at (id ∷ ids) i cs h some =
+    one_at id i (marked ids cs) (h.0.0, let le = h.0.1 in omega (arith, le, marked_length ids cs))
+    some
+    ∙ ap (broken_if (id == i)) (marked_at ids i cs h.1 some)
+    ∙ twice_broken (id == i) (has_id i ids) (connection_at cs i)
+
+pub one_marked : (cs : List Connection) (id : ℕ) (c new : Connection) → c ≡ connection_at cs id
+    → new ≡ lost_one c → slice_set cs (id - 1) new ≡ marked_one id cs
+one_marked cs id c new there is = ap (slice_set cs (id - 1)) (is ∙ ap lost_one there)
+
+-- a connection that is open stays so
+keeps_lost : (c : Connection) → is_open (lost_one c) ≡ is_open c
+keeps_lost c = elim (is_open c) as (λ b. is_open (cond b (record c { is_broken = true }) c)
+    ≡ is_open c) [ true ↦ refl | false ↦ refl ]
+
+open_set : (cs : List Connection) (a b : ℕ)
+    → is_open (slice_index_or (slice_set cs a (lost_one (slice_index_or cs a fresh))) b fresh)
+    ≡ is_open (slice_index_or cs b fresh)
+open_set [] a b = refl
+open_set (c ∷ cs) zero zero = keeps_lost c
+open_set (c ∷ cs) zero (suc b) = refl
+open_set (c ∷ cs) (suc a) zero = refl
+open_set (c ∷ cs) (suc a) (suc b) = open_set cs a b
+
+stays_open : (ids : List ℕ) (cs : List Connection) (id : ℕ)
+    → is_open (connection_at (marked ids cs) id) ≡ is_open (connection_at cs id)
+stays_open [] cs id = refl
+stays_open (x ∷ ids) cs id =
+    open_set (marked ids cs) (x - 1) (id - 1) ∙ stays_open ids cs id
+
+pub open_marked : (ids : List ℕ) (cs : List Connection) (id : ℕ) → IsOpen cs id
+    → IsOpen (marked ids cs) id
+open_marked ids cs id on = (
+  (on.0.0, let le = on.0.1 in omega (arith, le, marked_length ids cs)),
+  stays_open ids cs id ∙ on.1,
+)

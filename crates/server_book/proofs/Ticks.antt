@@ -1,6 +1,7 @@
 -- A Tick sends what its entry sends, and leaves what the history says.
 use Rattle.std.proofs.Common.{◌≡◌, ◌≢◌, ◌+◌, ◌≤◌, ℕ, List, [], ◌∷◌, ◌++◌, length, sym, ap, ◌∙◌}
-use Rattle.std.proofs.Common.{refl, arith, true, false, append-nil, max, Some}
+use Rattle.std.proofs.Common.{refl, arith, Bool, true, false, cond, append-nil, max, Some}
+use Rattle.std.specs.Prelude.{◌==◌, ◌&&◌, ◌||◌}
 use Rattle.command_words.specs.Expiry.{without_due}
 use Rattle.command_words.specs.Space.{Space}
 use Rattle.track_table.specs.Table.{TableState, without_keys}
@@ -13,9 +14,11 @@ use Rattle.serial_model.specs.declared.history.Limits.{Limits}
 use Rattle.serial_model.specs.declared.history.Entry.{Entry}
 use Rattle.serial_model.specs.declared.history.Entry.TheVariants as entry
 use Rattle.serial_model.specs.EntryEffects.{bare_effect, last_effect}
-use Rattle.serial_model.specs.Plain.{pushes, tests_before, tests_then}
-use Rattle.serial_model.specs.State.{State, for_each, is_on}
-use Rattle.serial_model.specs.Actions.{Action, Sending, expiry_told, is_overgrown, later_told}
+use Rattle.serial_model.specs.Each.{AllIn}
+use Rattle.serial_model.specs.State.{State, for_each, is_on, keeps_bytes}
+use Rattle.serial_model.specs.Tracking.{has_id}
+use Rattle.serial_model.specs.Actions.{Action, Sending, are_lost, broken_after, expiry_told}
+use Rattle.serial_model.specs.Actions.{is_overgrown, later_told, modes_then, routed}
 use Rattle.serial_model.specs.History.{latest, has_ended, unsent, posted, sends, sent_to}
 use Rattle.serial_model.specs.History.{expired, state, tick_action, keyspace, posts_of, sent_bytes}
 use Rattle.serial_model.specs.History.{table}
@@ -23,18 +26,21 @@ use Rattle.serial_model.specs.Steps.{book_step}
 use Rattle.serial_model.proofs.Counts.{on_is}
 use Rattle.serial_model.proofs.Fresh.{action_sends_off}
 use Rattle.serial_model.proofs.ModeSteps.{mode_tick}
-use Rattle.serial_model.proofs.PlainActions.{tick_sends}
+use Rattle.serial_model.proofs.ActionSends.{tick_sends}
+use Rattle.serial_model.proofs.Each.{all_in}
+use Rattle.serial_model.proofs.Quiet.{tick_none}
 use Rattle.serial_model.proofs.StateSteps.{none_by_tick, tick_stands, tick_table}
 use Rattle.serial_model.proofs.Streams.{tick_bytes, unsent_tick, unsent_tick_ended}
-use Rattle.serial_model.proofs.TableSize.{table_within, without_keys_within}
 use Rattle.serial_model.proofs.Turning.{tick_step}
-use Rattle.server_book.specs.Places.{Connection}
-use Rattle.server_book.specs.Connections.{IsId, connection_at}
+use Rattle.server_book.specs.Places.{Connection, kept_broken}
+use Rattle.server_book.specs.Connections.{ConnectionsState, IsId, connection_at}
+use Rattle.server_book.specs.Sendings.{lost_ids, lost_marked}
 use Rattle.server_book.specs.BookState.{Agrees, connection_of}
-use Rattle.server_book.proofs.PrefixGroups.{nothing_told}
-use Rattle.server_book.proofs.Remembered.{short_dropped}
-use Rattle.server_book.proofs.Runs.{early, early_is, first, first_at, first_posts, length_first}
-use Rattle.server_book.proofs.BookTurns.{same_kept, same_parts}
+use Rattle.server_book.proofs.Routing.{lost_there}
+use Rattle.server_book.proofs.Runs.{early, early_is, early_lost, first, first_at, first_posts}
+use Rattle.server_book.proofs.Runs.{first_told, length_first, other_broken}
+use Rattle.server_book.proofs.Sendings.{broken_if, id_longer, marked_at, marked_length}
+use Rattle.server_book.proofs.BookTurns.{same_broken, same_kept, same_parts}
 
 module _ (l : Limits) (past : List Entry) (space : Space) (keys : TableState)
     (rs : List Registration) (cs : List Connection) (k : Agrees l past space keys rs cs) (m n : ℕ)
@@ -51,21 +57,24 @@ module _ (l : Limits) (past : List Entry) (space : Space) (keys : TableState)
   abbrev sent : List (ℕ × Sending)
   sent = early l past space keys rs cs k m gone gone_is
 
+  abbrev behind : ConnectionsState
+  behind = first l past space keys rs cs k m gone gone_is n
+
   abbrev told : List Connection
-  told = (first l past space keys rs cs k m gone gone_is n).items
+  told = (lost_marked behind).items
 
   -- no command signals a key, and none is remembered, so that none is past the table's limit
   none_dropped : later_told l t now ≡ []
-  none_dropped = grind (arith, short_dropped, without_keys_within, table_within, nothing_told)
+  none_dropped = tick_none l past m
 
   sends_are : sends l tick now ≡ sent
   sends_are =
-      tick_sends l past m
-      ∙ ap (λ x. ((pushes (tests_before now) (expiry_told t now) ++ [])
-      ++ pushes (tests_then t now) x) ++ []) none_dropped
-      ∙ append-nil ((pushes (tests_before now) (expiry_told t now) ++ []) ++ [])
-      ∙ append-nil (pushes (tests_before now) (expiry_told t now) ++ [])
-      ∙ append-nil (pushes (tests_before now) (expiry_told t now))
+      let group = routed now.modes (is_on now) (expiry_told t now) in
+      tick_sends l past m k.legal
+      ∙ ap (λ x. ((group ++ []) ++ routed (modes_then t now) (is_on now) x) ++ []) none_dropped
+      ∙ append-nil ((group ++ []) ++ [])
+      ∙ append-nil (group ++ [])
+      ∙ append-nil group
       ∙ sym (early_is l past space keys rs cs k m gone gone_is)
 
   bytes_are : (c : ℕ) → tick_bytes l past m c ≡ sent_bytes (sent_to n c sent)
@@ -86,15 +95,61 @@ module _ (l : Limits) (past : List Entry) (space : Space) (keys : TableState)
             ∙ append-nil (unsent l c past))
       ] refl
 
+  abbrev found : ℕ → Bool
+  found c = are_lost now.modes (is_on now) (expiry_told t now) c
+
+  broken_tick : (c : ℕ) → (state l (tick ∷ past)).broken c ≡ broken_after l t now c
+  unfolding state
+  broken_tick c = refl
+
+  no_more : (b : Bool) → (b || false) ≡ b
+  no_more b = grind arith
+
+  never_mends : (x b y : Bool) → (cond (x && false) false b || y) ≡ (b || y)
+  never_mends x b y = grind arith
+
+  broken_is : (c : ℕ) → (state l (tick ∷ past)).broken c ≡ ((now.broken c || found c) || false)
+  broken_is c =
+      broken_tick c
+      ∙ never_mends (0 == c) (now.broken c || found c)
+      (are_lost (modes_then t now) (is_on now) (later_told l t now) c)
+      ∙ ap (λ x. (now.broken c || found c) || are_lost (modes_then t now) (is_on now) x c)
+      none_dropped
+
+  broken_at : (i : ℕ)
+      → ((has_id i behind.lost && keeps_bytes (now.standing i))
+      || kept_broken (now.standing i) (now.broken i))
+      ≡ kept_broken (now.standing i) ((state l (tick ∷ past)).broken i)
+  broken_at i =
+      let kept = keeps_bytes (now.standing i) in
+      ap (λ x. (x && kept) || (kept && now.broken i))
+      (early_lost l past space keys rs cs k m gone gone_is i
+      ∙ sym (no_more (found i)))
+      ∙ other_broken kept (found i) false (now.broken i)
+      ∙ ap (λ b. kept && b) (sym (broken_is i))
+
+  lost_on : AllIn (IsId behind.items) behind.lost
+  lost_on =
+      all_in {P = IsId cs} {Q = IsId behind.items}
+      (id_longer cs behind.items
+      (omega (arith, length_first l past space keys rs cs k m gone gone_is n)))
+      (lost_ids cs (first_told l past space keys rs cs k m gone gone_is))
+      (lost_there cs (first_told l past space keys rs cs k m gone gone_is))
+
   each : (i : ℕ) → IsId cs i → connection_at told i ≡ connection_of l (tick ∷ past) i
   each i there =
-      first_at l past space keys rs cs k m gone gone_is n i there
+      marked_at behind.lost i behind.items lost_on there.0
+      ∙ ap (broken_if (has_id i behind.lost))
+      (first_at l past space keys rs cs k m gone gone_is n i there)
       ∙ same_parts (ap (λ x. unsent l i past ++ x) (sym (bytes_are i)) ∙ sym (unsent_after i))
       (sym (tick_stands l past i m))
       (same_kept (sym (tick_stands l past i m)) (sym (mode_tick l i m past)))
+      (broken_at i ∙ same_broken (sym (tick_stands l past i m)) refl)
 
   pub length_told : length told ≡ length cs
-  length_told = length_first l past space keys rs cs k m gone gone_is n
+  length_told =
+      marked_length behind.lost behind.items
+      ∙ length_first l past space keys rs cs k m gone gone_is n
 
   tick_space : keyspace l (tick ∷ past) ≡ without_due m (keyspace l past)
   unfolding state
@@ -121,7 +176,7 @@ module _ (l : Limits) (past : List Entry) (space : Space) (keys : TableState)
     each = λ i there. each i (there.0, let le = there.1 in omega (arith, le, length_told));
   }
 
-  pub posted_tick : (first l past space keys rs cs k m gone gone_is n).posts
+  pub posted_tick : (lost_marked (first l past space keys rs cs k m gone gone_is n)).posts
       ≡ posted l (tick ∷ past)
   unfolding posted
   posted_tick =

@@ -1,18 +1,18 @@
 -- A Run that memory broke off is taken back.
-use Rattle.std.proofs.Common.{◌≡◌, ℕ, List, [], ◌∷◌, ◌++◌, length, ap, ◌∙◌, refl, arith, None}
+use Rattle.std.proofs.Common.{◌≡◌, ℕ, List, [], ◌∷◌, ◌++◌, length, ap, sym, ◌∙◌, refl, arith, None}
 use Rattle.track_table.specs.declared.table.Held.{Held}
 use Rattle.track_table.specs.Table.{without_keys}
 use Rattle.serial_model.specs.declared.history.Post.{Post}
 use Rattle.serial_model.specs.Actions.{Sending}
-use Rattle.serial_model.specs.Plain.{pushes}
 use Rattle.serial_model.specs.Tracking.{Invalidation}
 use Rattle.serial_model.proofs.KeptTables.{table_without_keys}
 use Rattle.serial_model.proofs.TableSize.{without_keys_within}
 use Rattle.server_book.specs.Connections.{ConnectionsState, IsId, IsOpen, connection_at, is_open}
-use Rattle.server_book.specs.Sendings.{before_posts, is_pushed, message_post, queued, with_sendings}
+use Rattle.server_book.specs.Sendings.{before_posts, message_post, queued, unpassed, ways}
+use Rattle.server_book.specs.Sendings.{with_told}
 use Rattle.server_book.specs.Stores.{IsHeld}
-use Rattle.server_book.proofs.Sendings.{before_sendings, before_last, length_sendings}
-use Rattle.server_book.proofs.Sendings.{pushes_there, sent_at, unqueued_queued}
+use Rattle.server_book.proofs.Routing.{before_told, ways_there}
+use Rattle.server_book.proofs.Sendings.{before_last, length_sendings, sent_at, unqueued_queued}
 
 -- the table is one where keys leave it
 pub held_left : (limit : ℕ) (keys : List (List ℕ)) (rows : List Held) → IsHeld limit rows
@@ -29,12 +29,27 @@ reply_back n id st message on =
     before_last st.posts post (queued st.items id message)
     ∙ ap (before_posts st.posts) (unqueued_queued st.items post message on.0 refl)
 
+-- what was sent is taken back, and who was lost is forgotten
+pub back_to : (old now : ConnectionsState)
+    → before_posts now.posts now.items ≡ before_posts old.posts old.items → old.posts ≡ []
+    → old.lost ≡ []
+    → (let back : ConnectionsState = record {
+      items = before_posts now.posts now.items;
+      posts = [];
+      lost = [];
+    } in back ≡ old)
+back_to old now back none unlost =
+    ap (λ x. record { items = x; posts = []; lost = [] })
+    (back ∙ ap (λ ps. before_posts ps old.items) none)
+    ∙ ap (λ x. record { items = old.items; posts = x; lost = [] }) (sym none)
+    ∙ ap (λ x. record { items = old.items; posts = old.posts; lost = x }) (sym unlost)
+
 -- those were told whom the keys that left concern
 module _ (n id : ℕ) (old now : ConnectionsState) (group : List Invalidation)
     (on : IsOpen old.items id) (none : old.posts ≡ [])
-    (told : now ≡ with_sendings n (pushes (is_pushed old.items) group) old) where
+    (told : now ≡ with_told n (unpassed None group) old) where
   abbrev sent : List (ℕ × Sending)
-  sent = pushes (is_pushed old.items) group
+  sent = ways old.items (unpassed None group)
 
   pub length_told : length now.items ≡ length old.items
   length_told =
@@ -48,12 +63,12 @@ module _ (n id : ℕ) (old now : ConnectionsState) (group : List Invalidation)
     on_there,
     ap (λ (s : ConnectionsState). is_open (connection_at s.items id)) told
         ∙ ap is_open
-        (sent_at n id sent old on.0 (pushes_there None old.items group))
+        (sent_at n id sent old on.0 (ways_there old.items (unpassed None group)))
         ∙ on.1,
   )
 
   pub told_none : before_posts now.posts now.items ≡ old.items
   told_none =
       ap (λ (s : ConnectionsState). before_posts s.posts s.items) told
-      ∙ before_sendings n sent old (pushes_there None old.items group)
+      ∙ before_told n (unpassed None group) old
       ∙ ap (λ ps. before_posts ps old.items) none

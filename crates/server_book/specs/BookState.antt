@@ -24,7 +24,7 @@ use Rattle.track_table.specs.Table.{TableState}
 use Rattle.prefix_table.specs.declared.table.Registration.{Registration}
 use Rattle.server_book.specs.declared.stores.Stores.{Stores}
 use Rattle.serial_model.specs.Steps.{BookStep}
-use Rattle.server_book.specs.Places.{Connection, kept_mode}
+use Rattle.server_book.specs.Places.{Connection, kept_broken, kept_mode}
 use Rattle.server_book.specs.Connections.{IsId, connection_at, is_open}
 use Rattle.server_book.specs.Log.{LogState}
 
@@ -83,6 +83,7 @@ connection_of l past id =
       queue = unsent l id past;
       standing = s.standing id;
       mode = kept_mode (s.standing id) (s.modes id);
+      is_broken = kept_broken (s.standing id) (s.broken id);
     }
 
 -- the history is legal, and the keyspace, the remembered keys, the registered prefixes and the
@@ -105,6 +106,7 @@ pub record IsBook (l : Limits) (log : LogState) (stores : Stores) : Type 0 where
       stores.connections.items
   pub most_is : log.most ≡ l.history_max
   pub room : HasRoom log.closable stores.connections.items
+  pub none_lost : stores.connections.lost ≡ []
 
 -- the call is one that adds an entry; of a Tick it is not known yet whether a key is due
 abbrev pub IsAccepted : Limits → List Entry → BookCall → Type 0

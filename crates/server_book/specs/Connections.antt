@@ -8,10 +8,12 @@ use Rattle.serial_model.specs.State.{keeps_bytes, may_take}
 use Rattle.serial_model.specs.declared.history.Post.{Post}
 use Rattle.server_book.specs.Places.{Connection, fresh}
 
--- the connections, and what the last turn sent
+-- the connections, what the last turn sent, and those whose messages were due where the target of
+-- their redirection had ended, which is not told of them yet
 pub record ConnectionsState : Type 0 where
   pub items : List Connection
   pub posts : List Post
+  pub lost : List ℕ
 
 abbrev pub IsId : List Connection → ℕ → Type 0
 IsId connections id = (0 < id) × (id ≤ length connections)
@@ -49,7 +51,9 @@ IsOpen connections id =
 abbrev pub ArePosted : List Connection → List Post → Type 0
 ArePosted connections posts = AllIn (λ (post : Post). IsId connections post.id) posts
 
--- and there is room for one
-pub record HoldsPosts (connections : List Connection) (posts : List Post) (room : ℕ) : Type 0 where
+-- and there is room for one; those that were lost are there
+pub record HoldsPosts (connections : List Connection) (posts : List Post) (lost : List ℕ)
+    (room : ℕ) : Type 0 where
   pub there : ArePosted connections posts
+  pub lost_there : AllIn (IsId connections) lost
   pub for_one : 1 ≤ room

@@ -1,27 +1,32 @@
 -- What the plan of a request says of what its words do.
-use Rattle.std.specs.Prelude.{◌≡◌, ℕ, List, [], ◌∷◌, ◌++◌, Result, Ok, Bool, true, false}
+use Rattle.std.specs.Prelude.{◌≡◌, ◌&&◌, ℕ, List, [], ◌∷◌, ◌++◌, Result, Ok, Err, Bool, true}
+use Rattle.std.specs.Prelude.{false}
 use Rattle.std.specs.Prelude.{Option, Some, None, if◌then◌else◌}
 use Rattle.std.specs.Option.{option_map_or}
 use Rattle.command_words.specs.declared.command.Command.{Command}
+use Rattle.command_words.specs.declared.command.Command.TheVariants.{ClientTrackingInfo}
 use Rattle.command_words.specs.declared.command.Signalled.{Signalled}
 use Rattle.command_words.specs.declared.command.Signalled.TheVariants.{Keys, All}
 use Rattle.command_words.specs.declared.command.WordFault.{WordFault}
+use Rattle.command_words.specs.Effect as words
+use Rattle.command_words.specs.Effects.{has_row}
 use Rattle.command_words.specs.Space.{Space}
 use Rattle.track_table.specs.declared.table.Held.{Held}
 use Rattle.resp_value.specs.declared.value.Value.{Value}
 use Rattle.track_table.specs.Table.{TableState, dropped, kept, without_connection}
 use Rattle.prefix_table.specs.declared.table.Registration.{Registration}
 use Rattle.prefix_table.specs.Table as registrations
-use Rattle.track_modes.specs.Commands.{spent_mode}
+use Rattle.track_modes.specs.Commands.{allows, spent_mode}
 use Rattle.track_modes.specs.ModeState.{ModeState, prefixes_of}
 use Rattle.serial_model.specs.Modes.{Runner, Memory, Remembers, Registers, Forgets, own_effect}
-use Rattle.serial_model.specs.Modes.{ending_of, is_quitting}
+use Rattle.serial_model.specs.Modes.{Ending, OwnEffect, ending_of, is_quitting}
 use Rattle.serial_model.specs.Tracking.{AreApart, Invalidation, drop_group, registering}
 use Rattle.serial_model.specs.Tracking.{remembering, signal_group, without_signalled}
-use Rattle.serial_model.specs.History.{effect_of}
+use Rattle.serial_model.specs.History.{effect_of, made_of, ran_over, served_reading}
 use Rattle.server_book.specs.declared.deed.Deed.{Deed}
 use Rattle.server_book.specs.declared.deed.Deed.TheVariants.{Nothing, Tell, TellAll, Remember}
 use Rattle.server_book.specs.declared.deed.Deed.TheVariants.{Become, Track, Forget, Quit}
+use Rattle.server_book.specs.declared.plan.Caller.{Caller}
 use Rattle.server_book.specs.declared.plan.Plan.{Plan}
 
 -- what a deed signals, and what its connection remembers by it
@@ -98,33 +103,66 @@ registered_by id deed prefixes =
     let after = registering id (memory_of deed) prefixes in
     if quits deed then registrations.without_connection id after else after
 
--- who runs words that name no target of a redirection, where none is broken
-abbrev pub runner : ℕ → ModeState → Runner
-runner id mode = record { id = id; mode = mode; is_broken = false; target_exists = true }
+-- who runs words, in a mode
+abbrev pub runner : Caller → ModeState → Runner
+runner by mode =
+    record {
+      id = by.id;
+      mode = mode;
+      is_broken = by.is_broken;
+      target_exists = by.target_exists;
+    }
 
 -- a command is answered, and does no more
 abbrev pub answered : ModeState → Value → Plan
 answered mode reply = record { reply = reply; proto = mode.proto; deed = Nothing }
 
--- the plan of words, by the command that they are served as, over a keyspace at a moment
-pub record IsPlan (plan : Plan) (by : Runner) (words : List (List ℕ))
-    (read : Result Command WordFault) (space : Space) (moment : ℕ) : Type 0 where
-  pub reply : plan.reply ≡ (effect_of by words read space moment).reply
-  pub signals : signals_of plan.deed ≡ (effect_of by words read space moment).signalled
-  pub memory : memory_of plan.deed ≡ (own_effect read by).memory
-  pub mode : mode_by plan.deed by.mode ≡ (own_effect read by).mode
-  pub ending : quits plan.deed ≡ is_quitting (ending_of read)
-  pub proto : plan.proto ≡ (own_effect read by).mode.proto
+-- the plan of what is done to keys and answered, and made of a connection in a mode, which ends so
+pub record IsPlan (plan : Plan) (before : ModeState) (does : words.Effect) (makes : OwnEffect)
+    (ends : Ending) : Type 0 where
+  pub reply : plan.reply ≡ does.reply
+  pub signals : signals_of plan.deed ≡ does.signalled
+  pub memory : memory_of plan.deed ≡ makes.memory
+  pub mode : mode_by plan.deed before ≡ makes.mode
+  pub ending : quits plan.deed ≡ is_quitting ends
+  pub proto : plan.proto ≡ makes.mode.proto
   pub sound : IsSound plan.deed
 
--- a plan of words that leave the keyspace
+-- of words, by the command that they are served as, which the mode allows; and of any words
+abbrev pub PlansRead : Plan → Runner → List (List ℕ) → Result Command WordFault → Space → ℕ
+    → Type 0
+PlansRead plan by words read space moment =
+    IsPlan plan by.mode (effect_of by words read space moment) (own_effect read by)
+    (ending_of read)
+
+abbrev pub PlansWords : Plan → Runner → List (List ℕ) → Space → ℕ → Type 0
+PlansWords plan by words space moment =
+    IsPlan plan by.mode (ran_over space by words moment) (made_of words by)
+    (ending_of (served_reading words))
+
+-- and they leave the keyspace
 pub record IsQuiet (plan : Plan) (by : Runner) (words : List (List ℕ))
     (read : Result Command WordFault) (space : Space) (moment : ℕ) : Type 0 where
-  pub planned : IsPlan plan by words read space moment
+  pub planned : PlansRead plan by words read space moment
   pub stays : (effect_of by words read space moment).space ≡ space
+
+pub record LeavesKeys (plan : Plan) (by : Runner) (words : List (List ℕ)) (space : Space)
+    (moment : ℕ) : Type 0 where
+  pub planned : PlansWords plan by words space moment
+  pub stays : (ran_over space by words moment).space ≡ space
 
 -- a plan of a command that leaves the keyspace, whatever words it was read from
 abbrev pub IsPlanOf : Plan → Runner → Command → Type 0
 IsPlanOf plan by command =
     (words : List (List ℕ)) (space : Space) (moment : ℕ)
     → IsQuiet plan by words (Ok command) space moment
+
+-- words that run on data, which their mode allows
+abbrev pub runs_row : ModeState → Result Command WordFault → Bool
+runs_row mode (Ok command) = has_row command && allows mode command
+runs_row mode (Err fault) = false
+
+-- words that ask whether the redirection of their connection is broken
+abbrev pub asks_broken : Result Command WordFault → Bool
+asks_broken (Ok ClientTrackingInfo) = true
+asks_broken _ = false

@@ -1,21 +1,29 @@
 -- What sendings do to the connections, and what taking them back does.
-use Rattle.std.specs.Prelude.{◌-◌, ◌==◌, ◌&&◌, ℕ, List, [], ◌∷◌, ◌++◌, Bool, length, not, take}
-use Rattle.std.specs.Prelude.{Option, Some, None, if◌then◌else◌, filter, nat_eq, slice_index_or}
+use Rattle.std.specs.Prelude.{◌≡◌, ◌-◌, ◌==◌, ◌&&◌, ◌||◌, ℕ, List, [], ◌∷◌, ◌++◌, Bool, true, false}
+use Rattle.std.specs.Prelude.{length, IfSome, not, take, Option, Some, None, if◌then◌else◌, filter}
+use Rattle.std.specs.Prelude.{nat_eq, slice_index_or}
 use Rattle.std.specs.List.{starts_with}
+use Rattle.track_table.specs.declared.table.Held.{Held}
 use Rattle.prefix_table.specs.declared.table.Registration.{Registration}
 use Rattle.prefix_table.specs.Table.{nothing}
+use Rattle.resp_value.specs.declared.value.Value.{Value}
+use Rattle.redirect.specs.declared.routes.Route.{Route}
+use Rattle.redirect.specs.declared.routes.Route.TheVariants as route
+use Rattle.redirect.specs.Messages.{message_of}
+use Rattle.redirect.specs.Routes.{breaks}
 use Rattle.serial_model.specs.declared.history.Post.{Post}
 use Rattle.serial_model.specs.declared.history.Posted.{Posted}
 use Rattle.serial_model.specs.declared.history.Posted.TheVariants.{Message, End}
-use Rattle.serial_model.specs.Plain.{takes_pushes}
+use Rattle.serial_model.specs.Actions.{are_lost, routed, target_at}
 use Rattle.serial_model.specs.State as state
 use Rattle.serial_model.specs.declared.standing.Standing.{Standing}
-use Rattle.serial_model.specs.Tracking.{Invalidation, ids_where, told_to}
+use Rattle.serial_model.specs.Tracking.{Invalidation, ids_where, told_to, whole_group}
 use Rattle.serial_model.specs.History.{Sending, sending_bytes, posted_of}
-use Rattle.server_book.specs.Places.{Connection}
+use Rattle.server_book.specs.Places.{Connection, lost_one}
 use Rattle.server_book.specs.Connections.{ConnectionsState, connection_at, with_connection}
-use Rattle.server_book.specs.Connections.{is_live}
+use Rattle.server_book.specs.Connections.{IsOpen, is_live}
 use Rattle.track_modes.specs.ModeState as track
+use Rattle.track_modes.specs.ModeState.{ModeState}
 
 -- the one key that is told of, or none for all
 abbrev pub told_keys : Option (List ℕ) → Option (List (List ℕ))
@@ -39,20 +47,63 @@ tracks connections id =
 abbrev pub tracking_ids : List Connection → List ℕ
 tracking_ids connections = ids_where (tracks connections) (length connections)
 
--- a connection that is sent a push of what it is told
-abbrev pub is_pushed : List Connection → ℕ → Bool
-is_pushed connections id =
-    takes_pushes (is_live connections) (connection_at connections id).mode id
-
 -- the connection itself, where it is told of no key that it changes (NOLOOP)
 abbrev pub passed_over : List Connection → ℕ → Option ℕ
 passed_over connections id =
     if track.is_noloop (connection_at connections id).mode.tracking then Some id else None
 
--- a connection that is sent a push and is not passed over
-abbrev pub is_told : Option ℕ → List Connection → ℕ → Bool
-is_told None connections = is_pushed connections
-is_told (Some passed) connections = λ id. is_pushed connections id && not (passed == id)
+abbrev pub passes : Option ℕ → ℕ → Bool
+passes None id = false
+passes (Some passed) id = passed == id
+
+-- those who are not passed over
+abbrev pub unpassed : Option ℕ → List Invalidation → List Invalidation
+unpassed but told = filter (λ i. not (passes but i.to)) told
+
+-- the modes of those that have not ended
+abbrev pub modes_in : List Connection → ℕ → ModeState
+modes_in connections id =
+    if is_live connections id then (connection_at connections id).mode else track.new_mode
+
+-- what these are sent where they are told
+abbrev pub ways : List Connection → List Invalidation → List (ℕ × Sending)
+ways connections told = routed (modes_in connections) (is_live connections) told
+
+-- what goes this way goes to a connection that is open
+abbrev pub IsOpenRoute : List Connection → Route → Type 0
+IsOpenRoute connections (route.Push to) = IsOpen connections to
+IsOpenRoute connections (route.Message to) = IsOpen connections to
+IsOpenRoute connections (route.BrokenNotice to) = IsOpen connections to
+IsOpenRoute connections route.Nowhere = Unit {0}
+
+-- the message that was built, if one was, is that of these keys
+abbrev pub IsMessage : Option (List (List ℕ)) → Option Value → Type 0
+IsMessage keys message = IfSome message (λ m. m ≡ message_of keys)
+
+-- a connection that redirects its messages to one that has ended
+abbrev pub is_lost : List Connection → ℕ → Bool
+is_lost connections id =
+    let modes = modes_in connections in
+    breaks (modes id).tracking (target_at modes (is_live connections) id)
+
+-- those of them that do
+abbrev pub lost_ids : List Connection → List Invalidation → List ℕ
+lost_ids connections [] = []
+lost_ids connections (i ∷ told) =
+    if is_lost connections i.to then i.to ∷ lost_ids connections told
+    else lost_ids connections told
+
+-- its redirection is broken, or is found so where these keys leave
+abbrev pub is_broken_by : List (List ℕ) → List Held → List Registration → List Connection → ℕ
+    → Bool
+is_broken_by keys rows prefixes connections id =
+    (connection_at connections id).is_broken
+    || are_lost (modes_in connections) (is_live connections) (whole_group keys rows prefixes) id
+
+-- the target of a redirection, if there is one, has not ended
+abbrev pub is_target : (ℕ → Bool) → Option ℕ → Bool
+is_target on None = true
+is_target on (Some r) = on r
 
 -- bytes behind those that a connection has not taken
 abbrev pub queued : List Connection → ℕ → List ℕ → List Connection
@@ -73,7 +124,7 @@ end_posts entry id standing = if state.is_live standing then end_post entry id �
 -- the connections and the posts after one more sending of an entry, and after several
 abbrev pub with_sending : ℕ → (ℕ × Sending) → ConnectionsState → ConnectionsState
 with_sending entry s state =
-    record {
+    record state {
       items = queued state.items s.0 (sending_bytes s.1);
       posts = state.posts ++ record { entry = entry; id = s.0; what = posted_of s.1 } ∷ [];
     }
@@ -81,6 +132,25 @@ with_sending entry s state =
 abbrev pub with_sendings : ℕ → List (ℕ × Sending) → ConnectionsState → ConnectionsState
 with_sendings entry [] state = state
 with_sendings entry (s ∷ ss) state = with_sendings entry ss (with_sending entry s state)
+
+-- once these are told, each by its way
+abbrev pub with_told : ℕ → List Invalidation → ConnectionsState → ConnectionsState
+with_told entry told state =
+    record (with_sendings entry (ways state.items told) state) {
+      lost = state.lost ++ lost_ids state.items told;
+    }
+
+-- the redirections of these are broken, the last first
+abbrev pub marked_one : ℕ → List Connection → List Connection
+marked_one id connections =
+    with_connection connections id (lost_one (connection_at connections id))
+
+abbrev pub marked : List ℕ → List Connection → List Connection
+marked [] connections = connections
+marked (id ∷ ids) connections = marked_one id (marked ids connections)
+
+abbrev pub lost_marked : ConnectionsState → ConnectionsState
+lost_marked state = record state { items = marked state.lost state.items; lost = [] }
 
 abbrev pub size_of : Posted → ℕ
 size_of (Message length) = length

@@ -15,7 +15,7 @@ ghost use Rattle.server_book.specs.BookState.{drops_after, effect_after, empty_b
 ghost use Rattle.server_book.specs.Log.{base, kept, runs};
 
 use super::log::Log;
-use super::plan::{Caller, Plan, Played, command_of, play};
+use super::plan::{Plan, Played, command_of, play, runs};
 use super::stores::Stores;
 use command_set::Expired;
 use command_words::{Command, Signalled, WordFault, read_command};
@@ -278,10 +278,7 @@ impl Book {
         ensures err { OnErr result (self.new ≡ self.old) }
     {
         let moment = now.max(self.log.moment());
-        let by = Caller {
-            alloc: self.stores.alloc,
-            id,
-        };
+        let by = self.stores.caller(id, read, moment)?;
         self.log.reserve(1)?;
         let entry = self.log.next();
         // no id is past the number of connections
@@ -323,6 +320,7 @@ impl Book {
         ensures err { OnErr result (self.new ≡ self.old) }
     {
         let read = read_within(self.stores.alloc, &words)?;
+        let runs = runs(self.stores.connections.mode(id), &read);
         let RunDone {
             entry,
             expired,
@@ -332,7 +330,7 @@ impl Book {
         self.effect = Some(Effect {
             entry,
             id,
-            command: command_of(read),
+            command: command_of(read, runs),
             expired,
             reply: Some(reply),
             signalled,

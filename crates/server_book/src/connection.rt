@@ -1,11 +1,11 @@
 //! What the server keeps of one connection.
-ghost use Rattle.std.specs.Prelude.{◌≡◌, ◌&&◌, ◌++◌, true, OnOk, OnErr, IfOk, length, take, drop};
+ghost use Rattle.std.specs.Prelude.{◌≡◌, ◌<◌, ◌^◌, ◌&&◌, ◌++◌, true, false, OnOk, OnErr, IfOk};
+ghost use Rattle.std.specs.Prelude.{IfSome, length, take, drop};
 ghost use Rattle.serial_model.specs.Actions.{spelled};
-ghost use Rattle.serial_model.specs.Plain.{is_three};
 ghost use Rattle.serial_model.specs.State as state;
 ghost use Rattle.serial_model.specs.State.{closed, keeps_bytes, may_take};
 ghost use Rattle.serial_model.specs.declared.standing.Standing.TheVariants.{Quit};
-ghost use Rattle.server_book.specs.Places.{bytes_in, fresh, gone};
+ghost use Rattle.server_book.specs.Places.{HasNumber, bytes_in, fresh, gone, lost_one};
 ghost use Rattle.track_modes.specs.Commands.{spent_mode};
 ghost use Rattle.track_modes.specs.ModeState as track;
 
@@ -28,10 +28,12 @@ enum Queue {
 struct Open {
     mode: Mode,
     queue: Queue,
+    is_broken: bool,
 }
 
-/// A connection: how far it has ended and, until it is closed, what its own runs made of it and
-/// the bytes that it was sent and has not taken. Of one that is closed these 16 bytes stay.
+/// A connection: how far it has ended and, until it is closed, what its own runs made of it, the
+/// bytes that it was sent and has not taken, and whether its redirection is broken. Of one that is
+/// closed these 16 bytes stay.
 #[derive(Drop)]
 pub struct Connection {
     standing: Standing,
@@ -69,6 +71,16 @@ fn is_tracking(mode: &Mode) -> bool
     matches!(mode.tracking(), Tracking::On(_))
 }
 
+// The connection that its messages are redirected to.
+fn target(mode: &Mode) -> Option<u64>
+    ensures { result ≡ track.redirect_of mode.now.tracking }
+{
+    match mode.tracking() {
+        Tracking::On(settings) => settings.redirect,
+        Tracking::Off => None,
+    }
+}
+
 fn is_noloop(mode: &Mode) -> bool
     ensures { result ≡ track.is_noloop mode.now.tracking }
 {
@@ -91,6 +103,7 @@ impl Open {
     #[tactic(auto, unfolding(serial_model::specs::Actions::spelled))]
     fn add_value(&mut self, alloc: Global, proto: Proto, value: &Value) -> Result<u64, NoMemory>
         ensures mode { self.new.mode ≡ self.old.mode }
+        ensures broken { self.new.is_broken ≡ self.old.is_broken }
         ensures ok { OnOk result (bytes_in self.new.queue
             ≡ bytes_in self.old.queue ++ spelled proto value.now) }
         ensures count { IfOk result (λ n. n ≡ length (spelled proto value.now)) }
@@ -116,6 +129,7 @@ impl Connection {
         let open = Open {
             mode: Mode::new(alloc),
             queue: Queue::Nothing,
+            is_broken: false,
         };
         Ok(Connection {
             standing: Standing::Live,
@@ -154,19 +168,31 @@ impl Connection {
         }
     }
 
-    /// Whether it is on the third protocol.
-    pub fn is_three(&self) -> bool
-        ensures { result ≡ is_three self.now.mode.proto }
+    /// The connection that its messages are redirected to.
+    pub fn target(&self) -> Option<u64>
+        ensures target { result ≡ track.redirect_of self.now.mode.tracking }
+        ensures number { IfSome result (λ r. r < 2 ^ 63) }
     {
         match &self.kept {
-            Some(open) => open.mode.peer().proto == Proto::Three,
+            Some(open) => target(&open.mode),
+            None => None,
+        }
+    }
+
+    /// Whether a message was due to it, and that connection had ended.
+    pub fn is_broken(&self) -> bool
+        ensures { result ≡ self.now.is_broken }
+    {
+        match &self.kept {
+            Some(open) => open.is_broken,
             None => false,
         }
     }
 
     pub fn mode(&self) -> &Mode
         requires { keeps_bytes self.now.standing ≡ true }
-        ensures { result.now ≡ self.now.mode }
+        ensures mode { result.now ≡ self.now.mode }
+        ensures number { HasNumber result.now }
     {
         match &self.kept {
             Some(open) => &open.mode,
@@ -175,11 +201,36 @@ impl Connection {
     }
 
     pub fn set_mode(&mut self, mode: Mode)
-        requires { keeps_bytes self.old.standing ≡ true }
+        requires open { keeps_bytes self.old.standing ≡ true }
+        requires number { HasNumber mode }
         ensures { self.new ≡ record self.old { mode = mode } }
     {
         match &mut self.kept {
             Some(open) => open.mode = mode,
+            None => unreachable!(),
+        }
+    }
+
+    /// Its redirection is broken, where it can still be closed. It takes no memory.
+    pub fn lose(&mut self)
+        ensures { self.new ≡ lost_one self.old }
+    {
+        if !self.reads() {
+            return;
+        }
+        match &mut self.kept {
+            Some(open) => open.is_broken = true,
+            None => unreachable!(),
+        }
+    }
+
+    /// Its redirection is not broken any more. It takes no memory.
+    pub fn mend(&mut self)
+        requires { keeps_bytes self.old.standing ≡ true }
+        ensures { self.new ≡ record self.old { is_broken = false } }
+    {
+        match &mut self.kept {
+            Some(open) => open.is_broken = false,
             None => unreachable!(),
         }
     }

@@ -4,37 +4,20 @@ ghost use Rattle.command_words.specs.declared.command.Command.TheVariants as com
 ghost use Rattle.command_words.specs.Effects.{has_row};
 ghost use Rattle.command_words.specs.Space.{Space};
 ghost use Rattle.serial_model.specs.History.{served};
-ghost use Rattle.serial_model.specs.Modes.{accepted, is_served_tracking, pong};
-ghost use Rattle.serial_model.specs.Plain.{IsPlainMode};
-ghost use Rattle.server_book.specs.Plans.{IsPlanOf, IsQuiet, answered, runner};
-ghost use Rattle.track_modes.specs.Commands.{after_command, command_fault};
+ghost use Rattle.serial_model.specs.Modes.{accepted, is_barred};
+ghost use Rattle.server_book.specs.Places.{HasNumber};
+ghost use Rattle.server_book.specs.Plans.{IsPlanOf, IsQuiet, runner};
+ghost use Rattle.track_modes.specs.Commands.{allows, changed, ended, fault_at, registers};
 
 use super::deed::Deed;
 use super::hello::{blob, greeting, hello};
-use super::plan::{Caller, Plan, plan_fault};
+use super::plan::{Caller, Plan, answered, plan_fault};
+use super::subscription::{pong, subscribe_reply, unsubscribe_reply};
 use super::tracking_info::{redirect_number, tracking_info};
 use command_words::{Command, TrackOptions, WordFault};
 use resp_value::{NoMemory, Octets, Proto, Value, Words};
 use std::alloc::Global;
 use track_modes::{Mode, ModeFault};
-
-/// CLIENT TRACKING OFF, or with options that concern no other connection.
-pub fn is_served_tracking(options: &TrackOptions) -> bool
-    ensures { result ≡ is_served_tracking options.now }
-{
-    !(options.on && options.redirect.is_some())
-}
-
-// A command is answered, and does no more.
-fn answered(mode: &Mode, reply: Value) -> Plan
-    ensures { result ≡ answered mode.now reply }
-{
-    Plan {
-        reply,
-        proto: mode.peer().proto,
-        deed: Deed::Nothing,
-    }
-}
 
 // The reply to a command that is accepted.
 fn accepted(alloc: Global) -> Result<Value, NoMemory>
@@ -43,43 +26,36 @@ fn accepted(alloc: Global) -> Result<Value, NoMemory>
     Ok(Value::Simple(Octets::from_slice(alloc, b"OK")?))
 }
 
-fn pong(alloc: Global, text: &Option<Octets>) -> Result<Value, NoMemory>
-    ensures { IfOk result (λ v. v ≡ pong text.now) }
-{
-    match text {
-        Some(text) => blob(alloc, text.as_slice()),
-        None => Ok(Value::Simple(Octets::from_slice(alloc, b"PONG")?)),
-    }
-}
-
 #[tactic(auto, unfolding(track_modes::specs::Commands::fault_at))]
 fn plan_ping(by: Caller, mode: &Mode, text: &Option<Octets>) -> Result<Plan, NoMemory>
-    ensures { IfOk result (λ p. IsPlanOf p (runner by.id mode.now) (commands.Ping text.now)) }
+    ensures { IfOk result (λ p. IsPlanOf p (runner by mode.now) (commands.Ping text.now)) }
 {
-    Ok(answered(mode, pong(by.alloc, text)?))
+    Ok(answered(mode, pong(by.alloc, mode, text)?))
 }
 
 #[tactic(auto, unfolding(track_modes::specs::Commands::fault_at))]
 fn plan_echo(by: Caller, mode: &Mode, text: &Octets) -> Result<Plan, NoMemory>
-    ensures { IfOk result (λ p. IsPlanOf p (runner by.id mode.now) (commands.Echo text.now)) }
+    ensures { IfOk result (λ p. IsPlanOf p (runner by mode.now) (commands.Echo text.now)) }
 {
     Ok(answered(mode, blob(by.alloc, text.as_slice())?))
 }
 
-// HELLO with this word, which a mode that is served never refuses.
-#[tactic(auto, unfolding(track_modes::specs::Commands::fault_at))]
-fn apply_hello(mode: &mut Mode, command: &Command, word: &Option<Octets>)
-    requires plain { IsPlainMode mode.old }
-    requires is { command.now ≡ commands.Hello word.now }
-    ensures mode { mode.new ≡ after_command command.now mode.old }
-    ensures accepted { command_fault command.now true mode.old ≡ None }
+// A command that its mode allows, and that no mode refuses.
+#[tactic(auto, unfolding(track_modes::specs::Commands::after_command))]
+fn applied(mode: &Mode, command: &Command) -> Result<Mode, NoMemory>
+    requires allowed { allows mode.now command.now ≡ true }
+    requires accepted { fault_at command.now true mode.now ≡ None }
+    requires other { registers command.now ≡ false }
+    ensures { IfOk result (λ m. m ≡ ended command.now (changed command.now mode.now)) }
 {
-    if mode.apply(command, true).is_err() {
+    let mut next = mode.copy()?;
+    if next.apply(command, true).is_err() {
         unreachable!()
     }
+    Ok(next)
 }
 
-#[tactic(auto, unfolding(track_modes::specs::Commands::after_command))]
+#[tactic(auto, unfolding(track_modes::specs::Commands::fault_at))]
 fn plan_hello(
     by: Caller,
     mode: &Mode,
@@ -87,16 +63,55 @@ fn plan_hello(
     word: &Option<Octets>,
 ) -> Result<Plan, NoMemory>
     requires id { by.id < 2 ^ 63 }
-    requires plain { IsPlainMode mode.now }
+    requires allowed { allows mode.now command.now ≡ true }
     requires is { command.now ≡ commands.Hello word.now }
-    ensures { IfOk result (λ p. IsPlanOf p (runner by.id mode.now) command.now) }
+    ensures { IfOk result (λ p. IsPlanOf p (runner by mode.now) command.now) }
 {
     let reply = match hello(word, mode.peer().proto) {
         Ok(proto) => greeting(by.alloc, proto, by.id)?,
         Err(text) => Value::Error(Octets::from_slice(by.alloc, text)?),
     };
-    let mut next = mode.copy()?;
-    apply_hello(&mut next, command, word);
+    let next = applied(mode, command)?;
+    Ok(Plan {
+        reply,
+        proto: next.peer().proto,
+        deed: Deed::Become(next),
+    })
+}
+
+#[tactic(auto, unfolding(track_modes::specs::Commands::fault_at))]
+fn plan_subscribe(
+    by: Caller,
+    mode: &Mode,
+    command: &Command,
+    channel: &Octets,
+) -> Result<Plan, NoMemory>
+    requires allowed { allows mode.now command.now ≡ true }
+    requires is { command.now ≡ commands.Subscribe channel.now }
+    ensures { IfOk result (λ p. IsPlanOf p (runner by mode.now) command.now) }
+{
+    let reply = subscribe_reply(by.alloc, channel)?;
+    let next = applied(mode, command)?;
+    Ok(Plan {
+        reply,
+        proto: next.peer().proto,
+        deed: Deed::Become(next),
+    })
+}
+
+#[tactic(auto, unfolding(track_modes::specs::Commands::fault_at))]
+fn plan_unsubscribe(
+    by: Caller,
+    mode: &Mode,
+    command: &Command,
+    channel: &Option<Octets>,
+) -> Result<Plan, NoMemory>
+    requires allowed { allows mode.now command.now ≡ true }
+    requires is { command.now ≡ commands.Unsubscribe channel.now }
+    ensures { IfOk result (λ p. IsPlanOf p (runner by mode.now) command.now) }
+{
+    let next = applied(mode, command)?;
+    let reply = unsubscribe_reply(by.alloc, channel, mode, next.peer().subscribed)?;
     Ok(Plan {
         reply,
         proto: next.peer().proto,
@@ -107,7 +122,7 @@ fn plan_hello(
 // RESET is answered in the protocol of a connection that is new.
 #[tactic(auto, unfolding(track_modes::specs::Commands::fault_at))]
 fn plan_reset(by: Caller, mode: &Mode) -> Result<Plan, NoMemory>
-    ensures { IfOk result (λ p. IsPlanOf p (runner by.id mode.now) commands.Reset) }
+    ensures { IfOk result (λ p. IsPlanOf p (runner by mode.now) commands.Reset) }
 {
     Ok(Plan {
         reply: Value::Simple(Octets::from_slice(by.alloc, b"RESET")?),
@@ -118,7 +133,7 @@ fn plan_reset(by: Caller, mode: &Mode) -> Result<Plan, NoMemory>
 
 #[tactic(auto, unfolding(track_modes::specs::Commands::fault_at))]
 fn plan_quit(by: Caller, mode: &Mode) -> Result<Plan, NoMemory>
-    ensures { IfOk result (λ p. IsPlanOf p (runner by.id mode.now) commands.Quit) }
+    ensures { IfOk result (λ p. IsPlanOf p (runner by mode.now) commands.Quit) }
 {
     Ok(Plan {
         reply: accepted(by.alloc)?,
@@ -130,7 +145,7 @@ fn plan_quit(by: Caller, mode: &Mode) -> Result<Plan, NoMemory>
 #[tactic(auto, unfolding(track_modes::specs::Commands::fault_at))]
 fn plan_id(by: Caller, mode: &Mode) -> Result<Plan, NoMemory>
     requires { by.id < 2 ^ 63 }
-    ensures { IfOk result (λ p. IsPlanOf p (runner by.id mode.now) commands.ClientId) }
+    ensures { IfOk result (λ p. IsPlanOf p (runner by mode.now) commands.ClientId) }
 {
     Ok(answered(mode, Value::Number(by.id as i64)))
 }
@@ -138,10 +153,10 @@ fn plan_id(by: Caller, mode: &Mode) -> Result<Plan, NoMemory>
 #[tactic(auto, unfolding(track_modes::specs::Commands::fault_at))]
 fn plan_tracking(by: Caller, mode: &Mode, options: &TrackOptions) -> Result<Plan, NoMemory>
     ensures { IfOk result (λ p.
-        IsPlanOf p (runner by.id mode.now) (commands.ClientTracking options.now)) }
+        IsPlanOf p (runner by mode.now) (commands.ClientTracking options.now)) }
 {
     let mut next = mode.copy()?;
-    match next.apply_tracking(options, true) {
+    match next.apply_tracking(options, by.target_exists) {
         Ok(()) => {
             let reply = accepted(by.alloc)?;
             next.spend();
@@ -166,7 +181,7 @@ fn plan_tracking(by: Caller, mode: &Mode, options: &TrackOptions) -> Result<Plan
 #[tactic(auto, unfolding(track_modes::specs::Commands::fault_at))]
 fn plan_caching(by: Caller, mode: &Mode, is_yes: bool) -> Result<Plan, NoMemory>
     ensures { IfOk result (λ p.
-        IsPlanOf p (runner by.id mode.now) (commands.ClientCaching is_yes)) }
+        IsPlanOf p (runner by mode.now) (commands.ClientCaching is_yes)) }
 {
     let mut next = mode.copy()?;
     match next.apply_caching(is_yes) {
@@ -185,22 +200,24 @@ fn plan_caching(by: Caller, mode: &Mode, is_yes: bool) -> Result<Plan, NoMemory>
 }
 
 #[tactic(auto, unfolding(track_modes::specs::Commands::fault_at))]
-fn plan_getredir(mode: &Mode) -> Plan
-    requires { IsPlainMode mode.now }
-    ensures { (id : ℕ) → IsPlanOf result (runner id mode.now) commands.ClientGetRedir }
+fn plan_getredir(by: Caller, mode: &Mode) -> Plan
+    requires { HasNumber mode.now }
+    ensures { IsPlanOf result (runner by mode.now) commands.ClientGetRedir }
 {
+    let _by = by;
     answered(mode, Value::Number(redirect_number(mode)))
 }
 
 #[tactic(auto, unfolding(track_modes::specs::Commands::fault_at))]
 fn plan_info(by: Caller, mode: &Mode) -> Result<Plan, NoMemory>
-    requires { IsPlainMode mode.now }
-    ensures { IfOk result (λ p. IsPlanOf p (runner by.id mode.now) commands.ClientTrackingInfo) }
+    requires { HasNumber mode.now }
+    ensures { IfOk result (λ p. IsPlanOf p (runner by mode.now) commands.ClientTrackingInfo) }
 {
-    Ok(answered(mode, tracking_info(by.alloc, mode)?))
+    let info = tracking_info(by.alloc, by.is_broken, mode)?;
+    Ok(answered(mode, info))
 }
 
-/// The plan of words that read as a command that is none on data.
+/// The plan of words that read as a command that is none on data, and that their mode allows.
 pub fn plan_command(
     by: Caller,
     mode: &Mode,
@@ -208,10 +225,11 @@ pub fn plan_command(
     command: &Command,
 ) -> Result<Plan, NoMemory>
     requires id { by.id < 2 ^ 63 }
-    requires plain { IsPlainMode mode.now }
+    requires number { HasNumber mode.now }
     requires other { has_row command.now ≡ false }
+    requires allowed { is_barred mode.now (served (Ok command.now)) ≡ false }
     ensures { IfOk result (λ p. (space : Space) (moment : ℕ)
-        → IsQuiet p (runner by.id mode.now) words.now (served (Ok command.now)) space moment) }
+        → IsQuiet p (runner by mode.now) words.now (served (Ok command.now)) space moment) }
 {
     match command {
         Command::Ping(text) => plan_ping(by, mode, text),
@@ -220,16 +238,12 @@ pub fn plan_command(
         Command::Reset => plan_reset(by, mode),
         Command::Quit => plan_quit(by, mode),
         Command::ClientId => plan_id(by, mode),
-        Command::ClientTracking(options) => {
-            if is_served_tracking(options) {
-                plan_tracking(by, mode, options)
-            } else {
-                plan_fault(by, mode, words, WordFault::Unknown)
-            }
-        }
+        Command::ClientTracking(options) => plan_tracking(by, mode, options),
         Command::ClientCaching(is_yes) => plan_caching(by, mode, *is_yes),
-        Command::ClientGetRedir => Ok(plan_getredir(mode)),
+        Command::ClientGetRedir => Ok(plan_getredir(by, mode)),
         Command::ClientTrackingInfo => plan_info(by, mode),
+        Command::Subscribe(channel) => plan_subscribe(by, mode, command, channel),
+        Command::Unsubscribe(channel) => plan_unsubscribe(by, mode, command, channel),
         _ => plan_fault(by, mode, words, WordFault::Unknown),
     }
 }

@@ -1,26 +1,31 @@
 //! What the server keeps of its connections, by their ids, and what it sends them.
 ghost use Rattle.std.specs.Prelude.{◌≡◌, ◌++◌, ◌∷◌, [], ◌+◌, ◌^◌, ◌<◌, ◌≤◌, true, false, OnOk};
-ghost use Rattle.std.specs.Prelude.{OnErr, IfOk, length, take, drop, option_map, List, ℕ, Option};
-ghost use Rattle.redirect.specs.Messages as messages;
-ghost use Rattle.serial_model.specs.Actions.{spelled};
-ghost use Rattle.serial_model.specs.Plain.{pushes};
+ghost use Rattle.std.specs.Prelude.{OnErr, IfOk, IfSome, Some, length, take, drop, option_map};
+ghost use Rattle.std.specs.Prelude.{List, ℕ, Option};
+ghost use Rattle.redirect.specs.Messages.{message_of, notice_of, push_of};
+ghost use Rattle.resp_value.specs.declared.value.Proto.TheVariants.{Two, Three};
+ghost use Rattle.serial_model.specs.Actions.{peer_at, route_at, spelled, to_one, way};
 ghost use Rattle.serial_model.specs.declared.standing.Standing.TheVariants.{Quit};
-ghost use Rattle.serial_model.specs.Tracking.{told_to};
+ghost use Rattle.serial_model.specs.Tracking.{has_id, told_to};
 ghost use Rattle.server_book.specs.Connections.{IsId, IsOpen, ConnectionsState, connection_at};
 ghost use Rattle.server_book.specs.Connections.{gives, is_there, is_live, reads, with_connection};
-ghost use Rattle.server_book.specs.Places.{fresh, gone};
-ghost use Rattle.server_book.specs.Sendings.{before_posts, is_pushed, is_told, queued, size_of};
-ghost use Rattle.server_book.specs.Sendings.{passed_over, told_keys, tracking_ids};
+ghost use Rattle.server_book.specs.Places.{HasNumber, fresh, gone};
+ghost use Rattle.server_book.specs.Sendings.{IsMessage, IsOpenRoute, before_posts, is_lost};
+ghost use Rattle.server_book.specs.Sendings.{lost_marked, modes_in, passes, queued, size_of};
+ghost use Rattle.server_book.specs.Sendings.{passed_over, told_keys, tracking_ids, unpassed};
 ghost use Rattle.server_book.specs.Sendings.{end_post, end_posts, message_post, with_sendings};
+ghost use Rattle.server_book.specs.Sendings.{with_told};
 ghost use Rattle.track_modes.specs.Commands.{spent_mode};
+ghost use Rattle.track_modes.specs.ModeState.{redirect_of};
 
 use super::connection::Connection;
-use super::messages::push_of;
+use super::messages::{message_like, push_of};
+use redirect::{Route, notice, route};
 use resp_value::{NoMemory, Octets, Proto, Value};
 use serial_model::{Post, Posted};
 use std::alloc::Global;
 use std::marker::Model;
-use track_modes::Mode;
+use track_modes::{Mode, Peer};
 
 /// All connections that were admitted, and what the last turn sent them. Their ids are 1 to their
 /// number.
@@ -29,6 +34,9 @@ pub struct Connections {
     alloc: Global,
     items: Vec<Connection>,
     posts: Vec<Post>,
+    /// Those whose messages were due where the target of their redirection had ended, until the
+    /// turn is settled.
+    lost: Vec<u64>,
 }
 
 impl Model for Connections {
@@ -37,9 +45,14 @@ impl Model for Connections {
 
     ghost Value = { ConnectionsState };
 
-    ghost view = { λ c. record { items = c.items.items; posts = c.posts.items } };
+    ghost view = { λ c. record {
+      items = c.items.items;
+      posts = c.posts.items;
+      lost = c.lost.items;
+    } };
 
-    ghost invariant = { λ c. HoldsPosts c.items.items c.posts.items (vec_capacity c.posts) };
+    ghost invariant = { λ c.
+        HoldsPosts c.items.items c.posts.items c.lost.items (vec_capacity c.posts) };
 }
 
 fn size_of(what: Posted) -> u64
@@ -51,14 +64,25 @@ fn size_of(what: Posted) -> u64
     }
 }
 
+// Whether the connection is the one that is passed over.
+fn passes(but: Option<u64>, id: u64) -> bool
+    ensures { result ≡ passes but id }
+{
+    match but {
+        Some(passed) => passed == id,
+        None => false,
+    }
+}
+
 impl Connections {
     pub fn new(alloc: Global) -> Result<Connections, NoMemory>
-        ensures { IfOk result (λ c. c ≡ record { items = []; posts = [] }) }
+        ensures { IfOk result (λ c. c ≡ record { items = []; posts = []; lost = [] }) }
     {
         Ok(Connections {
             alloc,
             items: Vec::new(alloc),
             posts: Vec::with_capacity(alloc, 1)?,
+            lost: Vec::new(alloc),
         })
     }
 
@@ -132,19 +156,36 @@ impl Connections {
 
     pub fn mode(&self, id: u64) -> &Mode
         requires { IsOpen self.now.items id }
-        ensures { result.now ≡ (connection_at self.now.items id).mode }
+        ensures mode { result.now ≡ (connection_at self.now.items id).mode }
+        ensures number { HasNumber result.now }
     {
         self.items[(id - 1) as usize].mode()
     }
 
     pub fn set_mode(&mut self, id: u64, mode: Mode)
-        requires { IsOpen self.old.items id }
+        requires open { IsOpen self.old.items id }
+        requires number { HasNumber mode }
         ensures { let c = connection_at self.old.items id in
             let items = with_connection self.old.items id (record c { mode = mode }) in
             self.new ≡ record self.old { items = items } }
     {
         let connection = &mut self.items[(id - 1) as usize];
         connection.set_mode(mode);
+    }
+
+    /// The connection has this mode, and its redirection is not broken any more. It takes no
+    /// memory.
+    pub fn renew(&mut self, id: u64, mode: Mode)
+        requires open { IsOpen self.old.items id }
+        requires number { HasNumber mode }
+        ensures { let c = connection_at self.old.items id in
+            let renewed = record c { mode = mode; is_broken = false } in
+            let items = with_connection self.old.items id renewed in
+            self.new ≡ record self.old { items = items } }
+    {
+        let connection = &mut self.items[(id - 1) as usize];
+        connection.set_mode(mode);
+        connection.mend();
     }
 
     /// What CLIENT CACHING said to the connection ends. It takes no memory.
@@ -216,7 +257,7 @@ impl Connections {
     pub fn send(&mut self, entry: u64, to: u64, proto: Proto, value: &Value) -> Result<(), NoMemory>
         requires { IsOpen self.old.items to }
         ensures ok { OnOk result (let message = spelled proto value.now in
-            self.new ≡ record {
+            self.new ≡ record self.old {
               items = queued self.old.items to message;
               posts = self.old.posts ++ message_post entry to (length message) ∷ [];
             }) }
@@ -262,30 +303,183 @@ impl Connections {
         Ok(ids)
     }
 
-    // Whether the connection is sent a push of what it is told.
-    fn is_pushed(&self, id: u64) -> bool
-        ensures { result ≡ is_pushed self.now.items id }
+    // What the sender of a message to a connection must know of it; of one that has ended, nothing.
+    fn peer(&self, id: Option<u64>) -> Option<Peer>
+        ensures { result ≡ peer_at (modes_in self.now.items) (is_live self.now.items) id }
     {
-        if !self.is_there(id) {
-            return false;
-        }
-        let connection = &self.items[(id - 1) as usize];
-        connection.tracks() && connection.is_three()
-    }
-
-    // Whether the connection is sent a push and is not passed over.
-    fn is_told(&self, but: Option<u64>, id: u64) -> bool
-        ensures { result ≡ is_told but self.now.items id }
-    {
-        match but {
-            Some(passed) => self.is_pushed(id) && passed != id,
-            None => self.is_pushed(id),
+        match id {
+            Some(id) => {
+                if self.is_live(id) {
+                    Some(self.items[(id - 1) as usize].mode().peer())
+                } else {
+                    None
+                }
+            }
+            None => None,
         }
     }
 
-    /// Tells connections that a key is not what it was, or that no key is: those that track on the
-    /// third protocol are sent a push, the others nothing, nor is the one that is passed over.
-    /// Where memory runs out, some of them were sent theirs.
+    // The connection that one that has not ended redirects its messages to.
+    fn target(&self, id: u64) -> Option<u64>
+        ensures target { result ≡ redirect_of (modes_in self.now.items id).tracking }
+        ensures number { IfSome result (λ r. r < 2 ^ 63) }
+    {
+        if self.is_live(id) {
+            self.items[(id - 1) as usize].target()
+        } else {
+            None
+        }
+    }
+
+    /// Whether the connection redirects its messages to one that has ended.
+    pub fn is_lost(&self, id: u64) -> bool
+        ensures { result ≡ is_lost self.now.items id }
+    {
+        match self.target(id) {
+            Some(target) => !self.is_live(target),
+            None => false,
+        }
+    }
+
+    /// Whether the connection's redirection is known to be broken.
+    pub fn is_broken(&self, id: u64) -> bool
+        requires { IsId self.now.items id }
+        ensures { result ≡ (connection_at self.now.items id).is_broken }
+    {
+        self.items[(id - 1) as usize].is_broken()
+    }
+
+    /// Whether the connection was found lost, which is not settled yet.
+    pub fn was_lost(&self, id: u64) -> bool
+        ensures { result ≡ has_id id self.now.lost }
+    {
+        self.lost.as_slice().contains(&id)
+    }
+
+    // Where what the connection is told goes.
+    fn route_of(&self, id: u64) -> Route
+        ensures route { result
+            ≡ route_at (modes_in self.now.items) (is_live self.now.items) id }
+        ensures open { IsOpenRoute self.now.items result }
+    {
+        if !self.is_live(id) {
+            return Route::Nowhere;
+        }
+        let mode = self.items[(id - 1) as usize].mode();
+        route(mode, id, self.peer(self.target(id)))
+    }
+
+    // Sends the message that names the keys that a push names, which is built where there is none.
+    fn send_message(
+        &mut self,
+        entry: u64,
+        to: u64,
+        push: &Value,
+        message: &mut Option<Value>,
+    ) -> Result<(), NoMemory>
+        requires { IsOpen self.old.items to }
+        ensures ok { OnOk result ((keys : Option (List (List ℕ)))
+            → push.now ≡ push_of keys → IsMessage keys message.old
+            → (self.new ≡ with_sendings entry (to_one to Two (Some (message_of keys))) self.old)
+            × IsMessage keys message.new) }
+        ensures err { OnErr result (self.new ≡ self.old) }
+    {
+        let built = match message.take() {
+            Some(built) => built,
+            None => message_like(self.alloc, push)?,
+        };
+        self.send(entry, to, Proto::Two, &built)?;
+        *message = Some(built);
+        Ok(())
+    }
+
+    // Sends the notice that the target of a connection's redirection has ended.
+    fn send_notice(&mut self, entry: u64, to: u64, id: u64) -> Result<(), NoMemory>
+        requires { IsOpen self.old.items to }
+        ensures ok { OnOk result (let target = redirect_of (modes_in self.old.items id).tracking in
+            self.new
+            ≡ with_sendings entry (to_one to Three (option_map notice_of target)) self.old) }
+        ensures err { OnErr result (self.new ≡ self.old) }
+    {
+        match self.target(id) {
+            Some(target) => {
+                let notice = notice(self.alloc, target)?;
+                self.send(entry, to, Proto::Three, &notice)
+            }
+            None => Ok(()),
+        }
+    }
+
+    // Sends what a push says of a connection where that goes.
+    fn send_by(
+        &mut self,
+        entry: u64,
+        id: u64,
+        push: &Value,
+        message: &mut Option<Value>,
+    ) -> Result<(), NoMemory>
+        ensures ok { OnOk result ((keys : Option (List (List ℕ)))
+            → push.now ≡ push_of keys → IsMessage keys message.old
+            → (self.new ≡ with_sendings entry
+            (way (modes_in self.old.items) (is_live self.old.items)
+            (record { to = id; keys = keys })) self.old) × IsMessage keys message.new) }
+        ensures err { OnErr result (self.new ≡ self.old) }
+    {
+        match self.route_of(id) {
+            Route::Push(to) => self.send(entry, to, Proto::Three, push),
+            Route::Message(to) => self.send_message(entry, to, push, message),
+            Route::BrokenNotice(to) => self.send_notice(entry, to, id),
+            Route::Nowhere => Ok(()),
+        }
+    }
+
+    // Tells a connection what a push says. Where its target has ended that is noted.
+    fn tell_to(
+        &mut self,
+        entry: u64,
+        id: u64,
+        push: &Value,
+        message: &mut Option<Value>,
+    ) -> Result<(), NoMemory>
+        ensures ok { OnOk result ((keys : Option (List (List ℕ)))
+            → push.now ≡ push_of keys → IsMessage keys message.old
+            → (self.new ≡ with_told entry (record { to = id; keys = keys } ∷ []) self.old)
+            × IsMessage keys message.new) }
+        ensures err { OnErr result
+            (before_posts self.new.posts self.new.items
+            ≡ before_posts self.old.posts self.old.items) }
+    {
+        if self.is_lost(id) {
+            self.lost.push(id)?;
+        }
+        self.send_by(entry, id, push, message)
+    }
+
+    // Tells a connection what a push says, unless it is passed over.
+    fn tell_one(
+        &mut self,
+        entry: u64,
+        but: Option<u64>,
+        id: u64,
+        push: &Value,
+        message: &mut Option<Value>,
+    ) -> Result<(), NoMemory>
+        ensures ok { OnOk result ((keys : Option (List (List ℕ)))
+            → push.now ≡ push_of keys → IsMessage keys message.old
+            → (self.new ≡ with_told entry (unpassed but (told_to keys (id ∷ []))) self.old)
+            × IsMessage keys message.new) }
+        ensures err { OnErr result
+            (before_posts self.new.posts self.new.items
+            ≡ before_posts self.old.posts self.old.items) }
+    {
+        if passes(but, id) {
+            return Ok(());
+        }
+        self.tell_to(entry, id, push, message)
+    }
+
+    /// Tells connections that a key is not what it was, or that no key is, each by its way; the one
+    /// that is passed over is told nothing. Where memory runs out, some of them were told.
     pub fn tell(
         &mut self,
         alloc: Global,
@@ -295,8 +489,7 @@ impl Connections {
         to: &[u64],
     ) -> Result<(), NoMemory>
         ensures ok { OnOk result (let keys = told_keys (option_map (λ k. k.now) key.entry) in
-            self.new ≡ with_sendings entry
-            (pushes (is_told but self.old.items) (told_to keys to.now)) self.old) }
+            self.new ≡ with_told entry (unpassed but (told_to keys to.now)) self.old) }
         ensures err { OnErr result
             (before_posts self.new.posts self.new.items
             ≡ before_posts self.old.posts self.old.items) }
@@ -305,12 +498,12 @@ impl Connections {
             return Ok(());
         }
         let push = push_of(alloc, key)?;
-        self.send_push(entry, &push, but, to)
+        self.tell_each(entry, &push, but, to)
     }
 
-    /// Sends a push to those of these connections that track on the third protocol and are not
-    /// passed over. Where memory runs out, some of them were sent it.
-    pub fn send_push(
+    /// Tells those of these connections that are not passed over what a push says, each by its way.
+    /// Where memory runs out, some of them were told.
+    pub fn tell_each(
         &mut self,
         entry: u64,
         push: &Value,
@@ -318,27 +511,40 @@ impl Connections {
         to: &[u64],
     ) -> Result<(), NoMemory>
         ensures ok { OnOk result ((keys : Option (List (List ℕ)))
-            → push.now ≡ messages.push_of keys
-            → self.new ≡ with_sendings entry
-            (pushes (is_told but self.old.items) (told_to keys to.now)) self.old) }
+            → push.now ≡ push_of keys
+            → self.new ≡ with_told entry (unpassed but (told_to keys to.now)) self.old) }
         ensures err { OnErr result ((keys : Option (List (List ℕ)))
-            → push.now ≡ messages.push_of keys
+            → push.now ≡ push_of keys
             → before_posts self.new.posts self.new.items
             ≡ before_posts self.old.posts self.old.items) }
     {
+        let mut message = None;
         for (place, id) in to.iter().enumerate() {
-            if self.is_told(but, *id) {
-                self.send(entry, *id, Proto::Three, push)?;
-            }
+            self.tell_one(entry, but, *id, push, &mut message)?;
         }
         Ok(())
     }
 
-    /// Takes back all that the turn sent, the last first. It takes no memory.
-    pub fn take_back(&mut self)
-        ensures { self.new
-            ≡ record { items = before_posts self.old.posts self.old.items; posts = [] } }
+    /// The redirections of those that were found lost are broken from now on. It takes no memory.
+    pub fn mark_lost(&mut self)
+        ensures { self.new ≡ lost_marked self.old }
     {
+        'lost: while let Some(id) = self.lost.pop() {
+            let connection = &mut self.items[(id - 1) as usize];
+            connection.lose();
+        }
+    }
+
+    /// Takes back all that the turn sent, the last first, and forgets who was found lost. It takes
+    /// no memory.
+    pub fn take_back(&mut self)
+        ensures { self.new ≡ record {
+          items = before_posts self.old.posts self.old.items;
+          posts = [];
+          lost = [];
+        } }
+    {
+        self.lost.clear();
         'posts: while let Some(post) = self.posts.pop() {
             let connection = &mut self.items[(post.id - 1) as usize];
             let size = size_of(post.what) as usize;
@@ -354,7 +560,7 @@ impl Connections {
         requires there { IsId self.old.items id }
         requires none { self.old.posts ≡ [] }
         ensures { let c = connection_at self.old.items id in
-            self.new ≡ record {
+            self.new ≡ record self.old {
               items = with_connection self.old.items id (gone c);
               posts = end_posts entry id c.standing;
             } }

@@ -11,6 +11,7 @@ mod log;
 mod messages;
 mod plan;
 mod stores;
+mod subscription;
 mod tracking_info;
 
 pub use book::Book;

@@ -1,8 +1,8 @@
 //! What connections are sent beside replies.
-ghost use Rattle.std.specs.Prelude.{◌≡◌, ◌∷◌, [], IfOk, Some, codes, filter, map, nat_eq};
-ghost use Rattle.std.specs.Prelude.{option_map};
+ghost use Rattle.std.specs.Prelude.{◌≡◌, ◌∷◌, [], IfOk, List, Option, Some, codes, filter, map};
+ghost use Rattle.std.specs.Prelude.{nat_eq, option_map, ℕ};
 ghost use Rattle.std.specs.List.{starts_with};
-ghost use Rattle.redirect.specs.Messages.{keys_of, push_of};
+ghost use Rattle.redirect.specs.Messages.{keys_of, message_of, push_of};
 ghost use Rattle.resp_value.specs.Tree.{blob};
 ghost use Rattle.resp_value.specs.ValueTree.{tree_of};
 ghost use Rattle.resp_value.specs.declared.value.Value.TheVariants.{Push};
@@ -10,6 +10,7 @@ ghost use Rattle.server_book.specs.Sendings.{told_keys};
 
 use resp_value::{NoMemory, Octets, Value, Values};
 use std::alloc::Global;
+use track_modes::INVALIDATION_CHANNEL;
 
 // The key alone, or null for all.
 fn keys_of(alloc: Global, key: Option<&[u8]>) -> Result<Value, NoMemory>
@@ -40,6 +41,22 @@ pub fn push_of(alloc: Global, key: Option<&[u8]>) -> Result<Value, NoMemory>
     ensures { IfOk result (λ v. v ≡ push_of (told_keys (option_map (λ k. k.now) key.entry))) }
 {
     push_with(alloc, keys_of(alloc, key)?)
+}
+
+/// The message of the channel that names the keys that a push names.
+pub fn message_like(alloc: Global, push: &Value) -> Result<Value, NoMemory>
+    ensures { IfOk result (λ v. (keys : Option (List (List ℕ)))
+        → push.now ≡ push_of keys → v ≡ message_of keys) }
+{
+    let mut parts = Values::new(alloc);
+    parts.push(Value::Blob(Octets::from_slice(alloc, b"message")?))?;
+    parts.push(Value::Blob(Octets::from_slice(alloc, INVALIDATION_CHANNEL)?))?;
+    if let Value::Push(said) = push {
+        if let [_, keys] = said.as_slice() {
+            parts.push(keys.copy()?)?;
+        }
+    }
+    Ok(Value::Array(parts))
 }
 
 // Those of the keys that start with a prefix, as values.

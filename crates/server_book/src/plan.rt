@@ -1,7 +1,7 @@
 //! What a request does: to the keyspace, and what is planned of its reply, whom it tells and what
 //! it makes of its connection.
 ghost use Rattle.std.specs.Prelude.{◌≡◌, ◌<◌, ◌^◌, IfOk, OnOk, OnErr, Result, Ok, Err, List, []};
-ghost use Rattle.std.specs.Prelude.{ℕ, true, if◌then◌else◌};
+ghost use Rattle.std.specs.Prelude.{ℕ, true, false, if◌then◌else◌, codes, is_some};
 ghost use Rattle.command_words.specs.declared.command.WordFault.{WordFault};
 ghost use Rattle.command_words.specs.Effects.{has_row};
 ghost use Rattle.command_words.specs.Expiry.{without_due};
@@ -11,19 +11,21 @@ ghost use Rattle.command_words.specs.Reading.{IsReading};
 ghost use Rattle.command_words.specs.Words.{reading};
 ghost use Rattle.command_words.specs.declared.command.Command.{Command};
 ghost use Rattle.command_set.specs.Runs.{taken_back};
+ghost use Rattle.resp_value.specs.declared.value.Value.TheVariants.{Error};
 ghost use Rattle.serial_model.specs.Deadlines.{due_keys};
 ghost use Rattle.serial_model.specs.EntryEffects.{command_of};
-ghost use Rattle.serial_model.specs.History.{is_served, served, served_reading};
-ghost use Rattle.serial_model.specs.Plain.{IsPlainMode};
-ghost use Rattle.server_book.specs.Plans.{IsQuiet, deed_for, runner};
-ghost use Rattle.server_book.specs.Played.{IsPlayed};
-ghost use Rattle.track_modes.specs.ModeState.{remembers_read};
+ghost use Rattle.serial_model.specs.History.{is_served, served};
+ghost use Rattle.server_book.specs.Places.{HasNumber};
+ghost use Rattle.server_book.specs.Plans.{IsQuiet, LeavesKeys, answered, deed_for, runner};
+ghost use Rattle.server_book.specs.Plans.{runs_row};
+ghost use Rattle.server_book.specs.Played.{HasRow, IsPlayed};
+ghost use Rattle.track_modes.specs.ModeState.{ModeState, remembers_read};
 
-use super::connection_plan::{is_served_tracking, plan_command};
+use super::connection_plan::plan_command;
 use super::deed::Deed;
 use command_set::{Database, Expired, Turned, Undo, has_row};
 use command_words::{Command, Signalled, WordFault, fault_text, keys_read};
-use resp_value::{NoMemory, Proto, Value, Words};
+use resp_value::{NoMemory, Octets, Proto, Value, Words};
 use std::alloc::Global;
 use track_modes::Mode;
 
@@ -40,6 +42,10 @@ pub struct Plan {
 pub struct Caller {
     pub alloc: Global,
     pub id: u64,
+    /// Its redirection is broken, where the request asks.
+    pub is_broken: bool,
+    /// The connection that the request names as the target of a redirection has not ended.
+    pub target_exists: bool,
 }
 
 /// What was played of a request: the keys that were due and left, the plan of the rest, and how the
@@ -62,24 +68,42 @@ pub fn play(
     moment: u64,
 ) -> Result<Played, NoMemory>
     requires id { by.id < 2 ^ 63 }
-    requires plain { IsPlainMode mode.now }
-    requires reading { IsReading read.now (reading words.now) }
-    ensures { IsPlayed (runner by.id mode.now) words.now (served_reading words.now) moment result
-        space.old space.new }
+    requires number { HasNumber mode.now }
+    requires reading { read.now ≡ reading words.now }
+    ensures { IsPlayed (runner by mode.now) words.now moment result space.old space.new }
+{
+    if let Ok(command) = read {
+        if has_row(command) && mode.allows(command) {
+            return play_data(space, by, mode, command, moment);
+        }
+    }
+    let plan = plan_words(by, mode, words, read)?;
+    play_expiry(space, plan, moment)
+}
+
+// The plan of words that are no data command, or that their mode does not allow.
+fn plan_words(
+    by: Caller,
+    mode: &Mode,
+    words: &Words,
+    read: &Result<Command, WordFault>,
+) -> Result<Plan, NoMemory>
+    requires id { by.id < 2 ^ 63 }
+    requires number { HasNumber mode.now }
+    requires reading { read.now ≡ reading words.now }
+    requires other { runs_row mode.now read.now ≡ false }
+    ensures { IfOk result (λ p. (space : Space) (moment : ℕ)
+        → LeavesKeys p (runner by mode.now) words.now space moment) }
 {
     match read {
         Ok(command) => {
-            if has_row(command) {
-                play_data(space, by, mode, command, moment)
+            if is_served(command) && !mode.allows(command) {
+                plan_barred(by, mode)
             } else {
-                let plan = plan_command(by, mode, words, command)?;
-                play_expiry(space, plan, moment)
+                plan_command(by, mode, words, command)
             }
         }
-        Err(fault) => {
-            let plan = plan_fault(by, mode, words, *fault)?;
-            play_expiry(space, plan, moment)
-        }
+        Err(fault) => plan_fault(by, mode, words, *fault),
     }
 }
 
@@ -110,26 +134,33 @@ pub fn is_served(command: &Command) -> bool
         | Command::Reset
         | Command::Quit
         | Command::ClientId
+        | Command::ClientTracking(_)
         | Command::ClientCaching(_)
         | Command::ClientGetRedir
-        | Command::ClientTrackingInfo => true,
-        Command::ClientTracking(options) => is_served_tracking(options),
+        | Command::ClientTrackingInfo
+        | Command::Subscribe(_)
+        | Command::Unsubscribe(_) => true,
         _ => has_row(command),
     }
 }
 
-/// The command that ran, of words that read so.
-pub fn command_of(read: Result<Command, WordFault>) -> Option<Command>
-    ensures { result ≡ command_of (served read) }
+/// Whether words that read so run as a command of this mode.
+pub fn runs(mode: &Mode, read: &Result<Command, WordFault>) -> bool
+    ensures { result ≡ is_some (command_of mode.now (served read.now)) }
 {
     match read {
-        Ok(command) => {
-            if is_served(&command) {
-                Some(command)
-            } else {
-                None
-            }
-        }
+        Ok(command) => is_served(command) && mode.allows(command),
+        Err(_) => false,
+    }
+}
+
+/// The command that ran, of words that read so, where they run as one.
+pub fn command_of(read: Result<Command, WordFault>, runs: bool) -> Option<Command>
+    ensures { (mode : ModeState) → runs ≡ is_some (command_of mode (served read))
+        → result ≡ command_of mode (served read) }
+{
+    match read {
+        Ok(command) => { if runs { Some(command) } else { None } }
         Err(_) => None,
     }
 }
@@ -172,9 +203,9 @@ fn play_data(
     moment: u64,
 ) -> Result<Played, NoMemory>
     requires row { has_row command.now ≡ true }
-    ensures { (words : List (List ℕ))
-        → IsPlayed (runner by.id mode.now) words (Ok command.now) moment result space.old
-        space.new }
+    ensures played { IfOk result (λ p.
+        HasRow (runner by mode.now) command.now moment p space.old space.new) }
+    ensures err { OnErr result (space.new ≡ space.old) }
 {
     let reads = reads_of(by.alloc, mode, command)?;
     let Turned {
@@ -195,6 +226,26 @@ fn play_data(
     })
 }
 
+// A command that its mode does not allow is refused.
+fn plan_barred(by: Caller, mode: &Mode) -> Result<Plan, NoMemory>
+    ensures { IfOk result (λ p. p
+        ≡ answered mode.now (Error (codes "ERR not allowed while subscribed"))) }
+{
+    let text = Octets::from_slice(by.alloc, b"ERR not allowed while subscribed")?;
+    Ok(answered(mode, Value::Error(text)))
+}
+
+/// A command is answered, and does no more.
+pub fn answered(mode: &Mode, reply: Value) -> Plan
+    ensures { result ≡ answered mode.now reply }
+{
+    Plan {
+        reply,
+        proto: mode.peer().proto,
+        deed: Deed::Nothing,
+    }
+}
+
 /// The plan of words that are no command that is served.
 pub fn plan_fault(
     by: Caller,
@@ -205,17 +256,13 @@ pub fn plan_fault(
     ensures { IfOk result (λ p.
         (read : Result Command WordFault) (space : Space) (moment : ℕ)
         → IsReading (Err fault) read
-        → IsQuiet p (runner by.id mode.now) words.now read space moment) }
+        → IsQuiet p (runner by mode.now) words.now read space moment) }
 {
     match fault {
         WordFault::NoMemory => Err(NoMemory),
         _ => {
             let reply = Value::Error(fault_text(by.alloc, words, fault)?);
-            Ok(Plan {
-                reply,
-                proto: mode.peer().proto,
-                deed: Deed::Nothing,
-            })
+            Ok(answered(mode, reply))
         }
     }
 }

@@ -1,27 +1,31 @@
 //! What the server keeps beside its history, all of which follows from it.
-ghost use Rattle.std.specs.Prelude.{◌≡◌, ◌<◌, ◌∷◌, [], OnOk, OnErr, IfOk, None};
+ghost use Rattle.std.specs.Prelude.{◌≡◌, ◌<◌, ◌∷◌, [], OnOk, OnErr, IfOk, None, true, Err};
+ghost use Rattle.command_words.specs.declared.command.WordFault.TheVariants as word;
 ghost use Rattle.std.specs.FinMap.{empty};
 ghost use Rattle.track_table.specs.Table.{dropped, kept, with_keys, without_connection};
 ghost use Rattle.track_table.specs.Table.{without_keys};
 ghost use Rattle.prefix_table.specs.Table as registrations;
 ghost use Rattle.serial_model.specs.Actions.{End};
-ghost use Rattle.serial_model.specs.Plain.{pushes};
+ghost use Rattle.serial_model.specs.Deadlines.{due_keys};
+ghost use Rattle.serial_model.specs.Modes.{target_of};
 ghost use Rattle.serial_model.specs.Tracking.{AreApart, drop_group, group, prefix_group, told_to};
 ghost use Rattle.serial_model.specs.Tracking.{whole_group};
-ghost use Rattle.server_book.specs.Connections.{IsId, IsOpen};
-ghost use Rattle.server_book.specs.Plans.{IsSound, kept_by, registered_by, signals_of};
-ghost use Rattle.server_book.specs.RunSendings.{command_told, passes, reply_sent, run_sendings};
-ghost use Rattle.server_book.specs.RunSendings.{sent_by, settled, unpassed};
-ghost use Rattle.server_book.specs.Sendings.{before_posts, is_pushed, is_told, tracking_ids};
-ghost use Rattle.server_book.specs.Sendings.{told_at, with_sendings};
-ghost use Rattle.server_book.specs.Stores.{IsHeld};
+ghost use Rattle.server_book.specs.Connections.{IsId, IsOpen, connection_at, is_live};
+ghost use Rattle.server_book.specs.Places.{HasNumber};
+ghost use Rattle.server_book.specs.Plans.{IsSound, asks_broken, kept_by, mode_by, registered_by};
+ghost use Rattle.server_book.specs.Plans.{signals_of};
+ghost use Rattle.server_book.specs.RunSendings.{deed_done, reply_sent, run_sendings, settled};
+ghost use Rattle.server_book.specs.Sendings.{before_posts, is_broken_by, is_target, lost_marked};
+ghost use Rattle.server_book.specs.Sendings.{passed_over, told_at, tracking_ids, unpassed};
+ghost use Rattle.server_book.specs.Sendings.{with_sendings, with_told};
+ghost use Rattle.server_book.specs.Stores.{IsHeld, running};
 
 use super::connections::Connections;
 use super::deed::Deed;
 use super::messages::push_under;
-use super::plan::Plan;
+use super::plan::{Caller, Plan};
 use command_set::Database;
-use command_words::Signalled;
+use command_words::{Command, Signalled, WordFault};
 use prefix_table::PrefixTable;
 use resp_value::{NoMemory, Octets, Words};
 use std::alloc::Global;
@@ -57,8 +61,7 @@ fn tell_rows(
     rows: &[Held],
 ) -> Result<(), NoMemory>
     ensures told { OnOk result (connections.new
-        ≡ with_sendings entry (pushes (is_pushed connections.old.items) (drop_group rows.now))
-        connections.old) }
+        ≡ with_told entry (drop_group rows.now) connections.old) }
     ensures back { OnErr result
         (before_posts connections.new.posts connections.new.items
         ≡ before_posts connections.old.posts connections.old.items) }
@@ -69,6 +72,23 @@ fn tell_rows(
     Ok(())
 }
 
+// The connection that a command names as the target of a redirection.
+fn named_target(read: &Result<Command, WordFault>) -> Option<u64>
+    ensures { result ≡ target_of read.now }
+{
+    match read {
+        Ok(Command::ClientTracking(options)) => { if options.on { options.redirect } else { None } }
+        _ => None,
+    }
+}
+
+// Whether words ask if the redirection of their connection is broken.
+fn asks_broken(read: &Result<Command, WordFault>) -> bool
+    ensures { result ≡ asks_broken read.now }
+{
+    matches!(read, Ok(Command::ClientTrackingInfo))
+}
+
 impl Stores {
     pub fn new(alloc: Global, table_max: u64) -> Result<Stores, NoMemory>
         requires { 0 < table_max }
@@ -76,7 +96,7 @@ impl Stores {
         ensures table { IfOk result (λ s. s.table ≡ record { limit = table_max; rows = [] }) }
         ensures prefixes { IfOk result (λ s. s.prefixes ≡ []) }
         ensures connections { IfOk result
-            (λ s. s.connections ≡ record { items = []; posts = [] }) }
+            (λ s. s.connections ≡ record { items = []; posts = []; lost = [] }) }
     {
         Ok(Stores {
             alloc,
@@ -98,9 +118,7 @@ impl Stores {
         ensures told { OnOk result
             (let rows = with_keys id keys.now self.old.table.rows in
             let group = drop_group (dropped self.old.table.limit rows) in
-            self.new.connections
-            ≡ with_sendings entry (pushes (is_pushed self.old.connections.items) group)
-            self.old.connections) }
+            self.new.connections ≡ with_told entry group self.old.connections) }
         ensures err { OnErr result (self.new.table ≡ self.old.table) }
         ensures back { OnErr result
             (before_posts self.new.connections.posts self.new.connections.items
@@ -135,8 +153,7 @@ impl Stores {
         ensures told { OnOk result
             (let group = group keys.now self.old.table.rows in
             self.new.connections
-            ≡ with_sendings entry (pushes (is_told but self.old.connections.items) group)
-            self.old.connections) }
+            ≡ with_told entry (unpassed but group) self.old.connections) }
         ensures back { OnErr result
             (before_posts self.new.connections.posts self.new.connections.items
             ≡ before_posts self.old.connections.posts self.old.connections.items) }
@@ -164,8 +181,7 @@ impl Stores {
         ensures told { OnOk result
             (let told = told_at keys.now self.old.prefixes place in
             self.new.connections
-            ≡ with_sendings entry (pushes (is_told but self.old.connections.items) told)
-            self.old.connections) }
+            ≡ with_told entry (unpassed but told) self.old.connections) }
         ensures back { OnErr result
             (before_posts self.new.connections.posts self.new.connections.items
             ≡ before_posts self.old.connections.posts self.old.connections.items) }
@@ -173,7 +189,7 @@ impl Stores {
         match self.prefixes.at(place) {
             Some((prefix, ids)) => {
                 let push = push_under(self.alloc, prefix, keys)?;
-                self.connections.send_push(entry, &push, but, ids)
+                self.connections.tell_each(entry, &push, but, ids)
             }
             None => Ok(()),
         }
@@ -193,8 +209,7 @@ impl Stores {
         ensures told { OnOk result
             (let group = prefix_group keys.now self.old.prefixes in
             self.new.connections
-            ≡ with_sendings entry (pushes (is_told but self.old.connections.items) group)
-            self.old.connections) }
+            ≡ with_told entry (unpassed but group) self.old.connections) }
         ensures back { OnErr result
             (before_posts self.new.connections.posts self.new.connections.items
             ≡ before_posts self.old.connections.posts self.old.connections.items) }
@@ -224,8 +239,7 @@ impl Stores {
         ensures told { OnOk result
             (let group = whole_group keys.now self.old.table.rows self.old.prefixes in
             self.new.connections
-            ≡ with_sendings entry (pushes (is_told but self.old.connections.items) group)
-            self.old.connections) }
+            ≡ with_told entry (unpassed but group) self.old.connections) }
         ensures back { OnErr result
             (before_posts self.new.connections.posts self.new.connections.items
             ≡ before_posts self.old.connections.posts self.old.connections.items) }
@@ -249,8 +263,7 @@ impl Stores {
         ensures told { OnOk result
             (let group = whole_group keys.now self.old.table.rows self.old.prefixes in
             self.new.connections
-            ≡ with_sendings entry (pushes (is_told but self.old.connections.items) group)
-            self.old.connections) }
+            ≡ with_told entry (unpassed but group) self.old.connections) }
         ensures err { OnErr result (self.new.table ≡ self.old.table) }
         ensures back { OnErr result
             (before_posts self.new.connections.posts self.new.connections.items
@@ -261,6 +274,16 @@ impl Stores {
         Ok(())
     }
 
+    // Whether the connection that a command names as the target of a redirection has not ended.
+    fn has_target(&self, read: &Result<Command, WordFault>) -> bool
+        ensures { result ≡ is_target (is_live self.now.connections.items) (target_of read.now) }
+    {
+        match named_target(read) {
+            Some(target) => self.connections.is_live(target),
+            None => true,
+        }
+    }
+
     // Tells those that track that no key is what it was; none is remembered any more.
     fn tell_flush(&mut self, entry: u64) -> Result<(), NoMemory>
         ensures space { self.new.space ≡ self.old.space }
@@ -268,9 +291,7 @@ impl Stores {
         ensures table { OnOk result (self.new.table ≡ record self.old.table { rows = [] }) }
         ensures told { OnOk result
             (let group = told_to None (tracking_ids self.old.connections.items) in
-            self.new.connections
-            ≡ with_sendings entry (pushes (is_pushed self.old.connections.items) group)
-            self.old.connections) }
+            self.new.connections ≡ with_told entry group self.old.connections) }
         ensures err { OnErr result (self.new.table ≡ self.old.table) }
         ensures back { OnErr result
             (before_posts self.new.connections.posts self.new.connections.items
@@ -293,10 +314,9 @@ impl Stores {
         ensures table { OnOk result (self.new.table
             ≡ record self.old.table { rows = without_keys keys.now self.old.table.rows }) }
         ensures told { OnOk result
-            (let group = unpassed (passes self.old.connections.items id)
-            (whole_group keys.now self.old.table.rows self.old.prefixes) in
+            (let group = whole_group keys.now self.old.table.rows self.old.prefixes in
             self.new.connections
-            ≡ with_sendings entry (pushes (is_pushed self.old.connections.items) group)
+            ≡ with_told entry (unpassed (passed_over self.old.connections.items id) group)
             self.old.connections) }
         ensures err { OnErr result (self.new.table ≡ self.old.table) }
         ensures back { OnErr result
@@ -355,9 +375,9 @@ impl Stores {
         ensures prefixes { OnOk result
             (self.new.prefixes ≡ registered_by id deed.now self.old.prefixes) }
         ensures sent { OnOk result
-            (let sendings = sent_by id deed.now self.old.table self.old.prefixes
-            self.old.connections.items in
-            self.new.connections ≡ with_sendings entry sendings self.old.connections) }
+            (self.new.connections
+            ≡ deed_done entry id deed.now self.old.table self.old.prefixes
+            self.old.connections) }
         ensures err { OnErr result (self.new.table ≡ self.old.table) }
         ensures err_prefixes { OnErr result (self.new.prefixes ≡ self.old.prefixes) }
         ensures back { OnErr result
@@ -390,7 +410,7 @@ impl Stores {
         ensures prefixes { OnOk result
             (self.new.prefixes ≡ registered_by id plan.now.deed self.old.prefixes) }
         ensures sent { OnOk result (self.new.connections
-            ≡ command_told entry id plan.now self.old.table self.old.prefixes
+            ≡ deed_done entry id plan.now.deed self.old.table self.old.prefixes
             (reply_sent entry id plan.now self.old.connections)) }
         ensures err { OnErr result (self.new.table ≡ self.old.table) }
         ensures err_prefixes { OnErr result (self.new.prefixes ≡ self.old.prefixes) }
@@ -423,9 +443,8 @@ impl Stores {
             self.new.table ≡ record self.old.table { rows = rows }) }
         ensures prefixes { OnOk result
             (self.new.prefixes ≡ registered_by id plan.now.deed self.old.prefixes) }
-        ensures sent { OnOk result (self.new.connections
-            ≡ run_sendings entry id expired.now plan.now self.old.table self.old.prefixes
-            self.old.connections) }
+        ensures sent { OnOk result (let run = running entry id expired.now plan.now self.old in
+            self.new.connections ≡ run_sendings run self.old.connections) }
         ensures err { OnErr result (self.new.table ≡ self.old.table) }
         ensures err_prefixes { OnErr result (self.new.prefixes ≡ self.old.prefixes) }
         ensures back { OnErr result
@@ -455,6 +474,7 @@ impl Stores {
         requires held { IsHeld self.old.table.limit self.old.table.rows }
         requires id { IsOpen self.old.connections.items id }
         requires none { self.old.connections.posts ≡ [] }
+        requires none_lost { self.old.connections.lost ≡ [] }
         requires apart { AreApart expired.now }
         requires sound { IsSound plan.now.deed }
         ensures space { self.new.space ≡ self.old.space }
@@ -464,9 +484,8 @@ impl Stores {
             self.new.table ≡ record self.old.table { rows = rows }) }
         ensures prefixes { OnOk result
             (self.new.prefixes ≡ registered_by id plan.now.deed self.old.prefixes) }
-        ensures sent { OnOk result (self.new.connections
-            ≡ run_sendings entry id expired.now plan.now self.old.table self.old.prefixes
-            self.old.connections) }
+        ensures sent { OnOk result (let run = running entry id expired.now plan.now self.old in
+            self.new.connections ≡ run_sendings run self.old.connections) }
         ensures err_table { OnErr result (self.new.table ≡ self.old.table) }
         ensures err_prefixes { OnErr result (self.new.prefixes ≡ self.old.prefixes) }
         ensures err_connections { OnErr result (self.new.connections ≡ self.old.connections) }
@@ -480,16 +499,19 @@ impl Stores {
         }
     }
 
-    /// What a request makes of its connection comes last, since it can't fail. Answers what the
-    /// request signals. It takes no memory.
+    /// What a request makes of its connection, and which redirections it finds broken, come last,
+    /// since they can't fail. Answers what the request signals. It takes no memory.
     pub fn settle(&mut self, id: u64, deed: Deed) -> Signalled
-        requires { IsOpen self.old.connections.items id }
+        requires open { IsOpen self.old.connections.items id }
+        requires number { HasNumber
+            (mode_by deed (connection_at self.old.connections.items id).mode) }
         ensures signalled { result ≡ signals_of deed }
         ensures space { self.new.space ≡ self.old.space }
         ensures table { self.new.table ≡ self.old.table }
         ensures prefixes { self.new.prefixes ≡ self.old.prefixes }
         ensures connections { self.new.connections ≡ settled id deed self.old.connections }
     {
+        self.connections.mark_lost();
         let none = Words::new(self.alloc);
         match deed {
             Deed::Nothing => self.connections.spend(id),
@@ -503,17 +525,102 @@ impl Stores {
             }
             Deed::Remember(_keys) => self.connections.spend(id),
             Deed::Become(mode) => self.connections.set_mode(id, mode),
-            Deed::Track(mode) => self.connections.set_mode(id, mode),
-            Deed::Forget(mode) => self.connections.set_mode(id, mode),
+            Deed::Track(mode) => self.connections.renew(id, mode),
+            Deed::Forget(mode) => self.connections.renew(id, mode),
             Deed::Quit => self.connections.quit(id),
         }
         Signalled::Keys(none)
+    }
+
+    // Whether the connection's redirection is broken, or is found so where these keys leave: those
+    // whom they concern are told, and that is taken back.
+    fn is_broken_by(&mut self, id: u64, keys: &[Octets]) -> Result<bool, NoMemory>
+        requires id { IsId self.old.connections.items id }
+        requires none { self.old.connections.posts ≡ [] }
+        requires none_lost { self.old.connections.lost ≡ [] }
+        requires apart { AreApart keys.now }
+        ensures space { self.new.space ≡ self.old.space }
+        ensures table { self.new.table ≡ self.old.table }
+        ensures prefixes { self.new.prefixes ≡ self.old.prefixes }
+        ensures connections { self.new.connections ≡ self.old.connections }
+        ensures broken { IfOk result (λ b. b ≡ is_broken_by keys.now
+            self.old.table.rows self.old.prefixes self.old.connections.items id) }
+    {
+        if self.connections.is_broken(id) {
+            return Ok(true);
+        }
+        if !self.connections.is_lost(id) {
+            return Ok(false);
+        }
+        match self.tell_keys(0, None, keys) {
+            Ok(()) => {
+                let is_lost = self.connections.was_lost(id);
+                self.connections.take_back();
+                Ok(is_lost)
+            }
+            Err(_) => {
+                self.connections.take_back();
+                Err(NoMemory)
+            }
+        }
+    }
+
+    // And where the keys that are due at a moment leave.
+    fn is_broken_then(&mut self, id: u64, moment: u64) -> Result<bool, NoMemory>
+        requires id { IsId self.old.connections.items id }
+        requires none { self.old.connections.posts ≡ [] }
+        requires none_lost { self.old.connections.lost ≡ [] }
+        ensures space { self.new.space ≡ self.old.space }
+        ensures table { self.new.table ≡ self.old.table }
+        ensures prefixes { self.new.prefixes ≡ self.old.prefixes }
+        ensures connections { self.new.connections ≡ self.old.connections }
+        ensures broken { IfOk result (λ b. b ≡ is_broken_by (due_keys moment self.old.space)
+            self.old.table.rows self.old.prefixes self.old.connections.items id) }
+    {
+        let keys = self.space.due_keys(moment)?;
+        self.is_broken_by(id, keys.as_slice())
+    }
+
+    /// Who runs words that were read so, at a moment. Whether its redirection is broken is found
+    /// out where they ask.
+    pub fn caller(
+        &mut self,
+        id: u64,
+        read: &Result<Command, WordFault>,
+        moment: u64,
+    ) -> Result<Caller, NoMemory>
+        requires id { IsId self.old.connections.items id }
+        requires none { self.old.connections.posts ≡ [] }
+        requires none_lost { self.old.connections.lost ≡ [] }
+        ensures space { self.new.space ≡ self.old.space }
+        ensures table { self.new.table ≡ self.old.table }
+        ensures prefixes { self.new.prefixes ≡ self.old.prefixes }
+        ensures connections { self.new.connections ≡ self.old.connections }
+        ensures id { IfOk result (λ by. by.id ≡ id) }
+        ensures target { IfOk result (λ by. by.target_exists
+            ≡ is_target (is_live self.old.connections.items) (target_of read.now)) }
+        ensures broken { IfOk result (λ by. asks_broken read.now ≡ true → by.is_broken
+            ≡ is_broken_by (due_keys moment self.old.space) self.old.table.rows
+            self.old.prefixes self.old.connections.items id) }
+        ensures known { OnOk result (read.now ≡ Err word.NoMemory → ⊥) }
+    {
+        if let Err(WordFault::NoMemory) = read {
+            return Err(NoMemory);
+        }
+        let is_broken = asks_broken(read) && self.is_broken_then(id, moment)?;
+        Ok(Caller {
+            alloc: self.alloc,
+            id,
+            is_broken,
+            target_exists: self.has_target(read),
+        })
     }
 
     /// Sends what a Tick sends: those are told whom the keys that left concern, and none holds them
     /// any more. Where memory runs out all is as before.
     pub fn send_tick(&mut self, entry: u64, expired: &[Octets]) -> Result<(), NoMemory>
         requires none { self.old.connections.posts ≡ [] }
+        requires none_lost { self.old.connections.lost ≡ [] }
         requires apart { AreApart expired.now }
         ensures space { self.new.space ≡ self.old.space }
         ensures prefixes { self.new.prefixes ≡ self.old.prefixes }
@@ -522,13 +629,15 @@ impl Stores {
         ensures sent { OnOk result
             (let group = whole_group expired.now self.old.table.rows self.old.prefixes in
             self.new.connections
-            ≡ with_sendings entry (pushes (is_pushed self.old.connections.items) group)
-            self.old.connections) }
+            ≡ lost_marked (with_told entry group self.old.connections)) }
         ensures err_table { OnErr result (self.new.table ≡ self.old.table) }
         ensures err_connections { OnErr result (self.new.connections ≡ self.old.connections) }
     {
         match self.tell_and_forget(entry, None, expired) {
-            Ok(()) => Ok(()),
+            Ok(()) => {
+                self.connections.mark_lost();
+                Ok(())
+            }
             Err(_) => {
                 self.connections.take_back();
                 Err(NoMemory)

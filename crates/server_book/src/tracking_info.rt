@@ -1,9 +1,9 @@
 //! CLIENT GETREDIR and CLIENT TRACKINGINFO: what a connection is told of how it tracks.
-ghost use Rattle.std.specs.Prelude.{◌≡◌, IfOk, map, false};
+ghost use Rattle.std.specs.Prelude.{◌≡◌, IfOk, map};
 ghost use Rattle.resp_value.specs.Tree.{blob};
 ghost use Rattle.resp_value.specs.declared.value.Value.TheVariants.{Map};
 ghost use Rattle.serial_model.specs.Modes.{redirect_number, tracking_info};
-ghost use Rattle.serial_model.specs.Plain.{IsPlainMode};
+ghost use Rattle.server_book.specs.Places.{HasNumber};
 
 use super::hello::blob;
 use resp_value::{NoMemory, Octets, Pairs, Value, Values};
@@ -21,24 +21,26 @@ fn blobs(alloc: Global, words: &[Octets]) -> Result<Values, NoMemory>
     Ok(values)
 }
 
-/// The connection that messages are redirected to: -1 where tracking is off, 0 where it is on,
-/// since no redirection is served.
+/// The connection that messages are redirected to: -1 where tracking is off, 0 where there is none.
 pub fn redirect_number(mode: &Mode) -> i64
-    requires { IsPlainMode mode.now }
+    requires { HasNumber mode.now }
     ensures { result ≡ redirect_number mode.now.tracking }
 {
     match mode.tracking() {
         Tracking::Off => -1,
-        Tracking::On(_) => 0,
+        Tracking::On(settings) => match settings.redirect {
+            Some(target) => target as i64,
+            None => 0,
+        },
     }
 }
 
-/// The reply to CLIENT TRACKINGINFO, where no redirection is broken.
-pub fn tracking_info(alloc: Global, mode: &Mode) -> Result<Value, NoMemory>
-    requires { IsPlainMode mode.now }
-    ensures { IfOk result (λ v. v ≡ Map (tracking_info false mode.now)) }
+/// The reply to CLIENT TRACKINGINFO.
+pub fn tracking_info(alloc: Global, is_broken: bool, mode: &Mode) -> Result<Value, NoMemory>
+    requires { HasNumber mode.now }
+    ensures { IfOk result (λ v. v ≡ Map (tracking_info is_broken mode.now)) }
 {
-    let flags = mode.flags(false)?;
+    let flags = mode.flags(is_broken)?;
     let flags = blobs(alloc, flags.as_slice())?;
     let prefixes = blobs(alloc, mode.tracking().prefixes())?;
     let mut rows = Pairs::new(alloc);

@@ -175,7 +175,7 @@ module _ (l : Limits) where
       let entry = Run id words moment in
       order_remembering (since l (entry ∷ past)) (length past + 1)
       (λ key. grind (arith, since_within (entry ∷ past) key))
-      id (made l past id words).memory (rows_at_read l entry past)
+      id (made l past id words moment).memory (rows_at_read l entry past)
       (renewed entry past
       (order_without_signalled (since l past) (signals l past id words moment)
       (table_then l past moment)

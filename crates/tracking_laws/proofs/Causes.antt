@@ -7,18 +7,17 @@ use Rattle.std.proofs.lemmas.Bool.{or_left, or_parts}
 use Rattle.std.proofs.lemmas.Bool.Decides.{nat_tests}
 use Rattle.command_words.specs.declared.command.Command.{Command}
 use Rattle.command_words.specs.Queries.{read}
-use Rattle.command_words.specs.Words.{reading}
 use Rattle.command_words.specs.Laws.{signals}
 use Rattle.track_table.specs.declared.table.Held.{Held}
 use Rattle.track_table.specs.Table as track
 use Rattle.track_table.specs.Table.{holders_of}
-use Rattle.track_modes.specs.ModeState.{ModeState, is_on, remembers_read}
+use Rattle.track_modes.specs.ModeState.{ModeState, is_on}
 use Rattle.serial_model.specs.declared.history.Limits.{Limits}
 use Rattle.serial_model.specs.declared.history.Entry.{Entry}
 use Rattle.serial_model.specs.declared.history.Entry.TheVariants.{Admit, Run, Tick, Take, Close}
 use Rattle.serial_model.specs.Modes.{Memory, Remembers, Forgets}
 use Rattle.serial_model.specs.Tracking.{has_id, without_signalled, remembering}
-use Rattle.serial_model.specs.History.{state, table, table_then, table_grown, mode, made, made_of}
+use Rattle.serial_model.specs.History.{state, table, table_then, table_grown, mode, made}
 use Rattle.serial_model.specs.History.{IsLegal, served_reading, has_ended, runner, expired, is_quit}
 use Rattle.serial_model.specs.Modes.{ending_of, is_quitting}
 use Rattle.serial_model.specs.History as history
@@ -33,12 +32,12 @@ use Rattle.serial_model.proofs.ToldLaws.{holder_of}
 use Rattle.serial_model.proofs.OwedLaws.{grown_is_owed}
 use Rattle.serial_model.proofs.ModeSteps.{mode_own}
 use Rattle.serial_model.proofs.StateSteps.{run_table_stays, tick_table}
-use Rattle.tracking_laws.specs.Told.{keys_read, reads_key}
+use Rattle.tracking_laws.specs.Told.{keeps_reads, keys_read, reads_key}
 use Rattle.tracking_laws.specs.Causes.{RememberedIsTracked, LeavesForCause, EachReadIsOwedOrTold}
 use Rattle.tracking_laws.specs.Causes.{EachReadIsRemembered}
 use Rattle.tracking_laws.proofs.Holders.{holds_with_keys}
 use Rattle.tracking_laws.proofs.Quits.{reads_no_quit, run_gone}
-use Rattle.tracking_laws.proofs.Remembering.{forgets_all, read_memory}
+use Rattle.tracking_laws.proofs.Remembering.{made_reads, made_stops}
 
 -- ---- a connection that remembers a key is one that may
 
@@ -67,14 +66,13 @@ forgets_is memory h = grind arith
 -- a connection that forgets tracks no more
 own_stops : (l : Limits) (past : List Entry) (c id : ℕ) (words : List (List ℕ)) (moment : ℕ)
     → is_on (mode l c (Run id words moment ∷ past)).tracking ≡ true
-    → ((id == c) && is_forgets (made l past id words).memory) ≡ false
-unfolding made_of
+    → ((id == c) && is_forgets (made l past id words moment).memory) ≡ false
 own_stops l past c id words moment h =
-    elim (cases_Bool ((id == c) && is_forgets (made l past id words).memory)) [
+    elim (cases_Bool ((id == c) && is_forgets (made l past id words moment).memory)) [
       | inl e ↦
-          let p = and_parts (id == c) (is_forgets (made l past id words).memory) e in
-          absurd (both_ways _ (forgets_all (reading words) (runner l past id words)
-          (forgets_is (made l past id words).memory p.1))
+          let p = and_parts (id == c) (is_forgets (made l past id words moment).memory) e in
+          absurd (both_ways _ (made_stops words (runner l past id words moment)
+          (forgets_is (made l past id words moment).memory p.1))
           (ap (λ (m : ModeState). is_on m.tracking) (sym (mode_own l c id moment words past p.0))
           ∙ h))
       | inr e ↦ e
@@ -88,7 +86,7 @@ run_leaves : (l : Limits) (past : List Entry) (c id : ℕ) (words : List (List �
     (key : List ℕ)
     → has_id c (holders_of key (table l past)) ≡ true
     → has_id c (holders_of key (table l (Run id words moment ∷ past))) ≡ false
-    → ((id == c) && is_forgets (made l past id words).memory) ≡ false
+    → ((id == c) && is_forgets (made l past id words moment).memory) ≡ false
     → ((id == c) && is_quit words) ≡ false
     → (signals_key l (Run id words moment) past key || drops_key l (Run id words moment) past key)
     ≡ true
@@ -104,7 +102,7 @@ run_leaves l past c id words moment key told gone stays goes_on =
           let q = or_parts (is_among (expired l past moment) key) (signals sig key) p.0 in
           absurd (both_ways _ (run_gone l past id words moment c key goes_on gone)
           (right _ _ (dropped_or_kept c key (length grown - l.table_max) grown
-          (remembering_keeps c key id (made l past id words).memory _ stays
+          (remembering_keeps c key id (made l past id words moment).memory _ stays
           (ap (has_id c) (signalled_apart c key sig (table_then l past moment) q.1
           ∙ keys_apart c key (expired l past moment) (table l past) q.0) ∙ told))) p.1))
     ]
@@ -161,17 +159,16 @@ leaves_for_cause l (Close id) past c key told gone =
 
 -- ---- each read is owed or told
 
-read_remembers : (l : Limits) (past : List Entry) (c : ℕ) (words : List (List ℕ))
+read_remembers : (l : Limits) (past : List Entry) (c m : ℕ) (words : List (List ℕ))
     (command : Command) (key : List ℕ)
-    → served_reading words ≡ Ok command → remembers_read (mode l c past) ≡ true
+    → served_reading words ≡ Ok command → keeps_reads (mode l c past) ≡ true
     → is_among (read command) key ≡ true
-    → (made l past c words).memory ≡ Remembers (read command)
-unfolding made_of
-read_remembers l past c words command key is remembers among =
+    → (made l past c words m).memory ≡ Remembers (read command)
+read_remembers l past c m words command key is keeps among =
     elim (read command) as (λ ks. read command ≡ ks → is_among ks key ≡ true
-    → (made l past c words).memory ≡ Remembers ks) [
+    → (made l past c words m).memory ≡ Remembers ks) [
       | [] ↦ λ e none. absurd (let no : ⊥ = cc in no)
-      | k ∷ ks ↦ λ e some. read_memory (reading words) (runner l past c words) k ks remembers
+      | k ∷ ks ↦ λ e some. made_reads words (runner l past c words m) k ks keeps
           (ap keys_read is ∙ e)
     ] refl among
 
@@ -184,28 +181,28 @@ own_grown c key keys rows among = grind (arith, holds_with_keys, nat_tests)
 run_remembers : (l : Limits) (c m : ℕ) (words : List (List ℕ)) (past : List Entry)
     (command : Command) (key : List ℕ)
     → served_reading words ≡ Ok command
-    → remembers_read (mode l c past) ≡ true → is_among (read command) key ≡ true
+    → keeps_reads (mode l c past) ≡ true → is_among (read command) key ≡ true
     → has_id c (holders_of key (table_grown l past c words m)) ≡ true
-run_remembers l c m words past command key is remembers among =
+run_remembers l c m words past command key is keeps among =
     let rows = without_signalled (history.signals l past c words m) (table_then l past m) in
     ap (λ y. has_id c (holders_of key (remembering c y rows)))
-    (read_remembers l past c words command key is remembers among)
+    (read_remembers l past c m words command key is keeps among)
     ∙ own_grown c key (read command) rows among
 
 -- a read that its connection remembers is of a command
 command_of : (l : Limits) (past : List Entry) (c id m : ℕ) (words : List (List ℕ)) (key : List ℕ)
     → reads_key l (Run id words m) past c key ≡ true
     → (command : Command) × (served_reading words ≡ Ok command) × (id ≡ c)
-    × (remembers_read (mode l id past) ≡ true) × (is_among (read command) key ≡ true)
+    × (keeps_reads (mode l id past) ≡ true) × (is_among (read command) key ≡ true)
 command_of l past c id m words key h =
     let p = and_parts (id == c)
-    (remembers_read (mode l id past) && is_among (keys_read (served_reading words)) key) h in
-    let q = and_parts (remembers_read (mode l id past))
+    (keeps_reads (mode l id past) && is_among (keys_read (served_reading words)) key) h in
+    let q = and_parts (keeps_reads (mode l id past))
     (is_among (keys_read (served_reading words)) key) p.1 in
     elim (served_reading words) as (λ r. served_reading words ≡ r
     → is_among (keys_read r) key ≡ true
     → (command : Command) × (served_reading words ≡ Ok command) × (id ≡ c)
-    × (remembers_read (mode l id past) ≡ true) × (is_among (read command) key ≡ true)) [
+    × (keeps_reads (mode l id past) ≡ true) × (is_among (read command) key ≡ true)) [
       | Ok command ↦ λ e among. (command, e, eqb-true id c p.0, q.0, among)
       | Err fault ↦ λ e none. absurd (let no : ⊥ = cc in no)
     ] refl q.1

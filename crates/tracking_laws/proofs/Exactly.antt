@@ -11,7 +11,7 @@ use Rattle.tracking_laws.proofs.Owned.{remembered_is_read, gone_is_forgotten}
 use Rattle.tracking_laws.proofs.Causes.{each_read_is_owed_or_told, leaves_for_cause}
 use Rattle.tracking_laws.proofs.Causes.{each_read_is_remembered, remembered_is_tracked}
 use Rattle.tracking_laws.proofs.Drops.{drops_oldest}
-use Rattle.tracking_laws.proofs.Sent.{sent_is_told}
+use Rattle.tracking_laws.proofs.Sent.{only_answered, sent_is_told}
 
 module _ (l : Limits) where
   before : (entry : Entry) (past : List Entry) → IsLegal l (entry ∷ past) → IsLegal l past
@@ -29,6 +29,7 @@ module _ (l : Limits) where
     asked = told_is_asked l entry past;
     once = told_once l entry past;
     sent = sent_is_told l entry past;
+    answered = only_answered l entry past;
     read = remembered_is_read l entry past;
     tracked = remembered_is_tracked l (entry ∷ past) legal;
     own_read = each_read_is_remembered l entry past;

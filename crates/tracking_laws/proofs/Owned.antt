@@ -10,24 +10,22 @@ use Rattle.track_table.specs.Order.{AreOrdered}
 use Rattle.serial_model.specs.declared.history.Limits.{Limits}
 use Rattle.serial_model.specs.declared.history.Entry.{Entry}
 use Rattle.serial_model.specs.declared.history.Entry.TheVariants.{Admit, Run, Tick, Take, Close}
-use Rattle.command_words.specs.Words.{reading}
-use Rattle.track_modes.specs.ModeState.{remembers_read}
 use Rattle.serial_model.specs.Modes.{Memory, Remembers, Registers, Forgets}
 use Rattle.serial_model.specs.Tracking.{remembering, without_signalled}
 use Rattle.serial_model.specs.History.{table, table_then, table_grown, expired, signals, mode}
-use Rattle.serial_model.specs.History.{state, served_reading, made_of, made, runner}
+use Rattle.serial_model.specs.History.{state, served_reading, made, runner}
 use Rattle.serial_model.proofs.StateSteps.{tick_table}
 use Rattle.command_words.specs.Laws as cause
 use Rattle.serial_model.specs.Laws.{is_among, remembers, drops_key}
 use Rattle.serial_model.specs.Tracking.{has_id}
-use Rattle.tracking_laws.specs.Told.{is_signalled, is_flush, keys_read, reads_key}
+use Rattle.tracking_laws.specs.Told.{is_signalled, is_flush, keeps_reads, keys_read, reads_key}
 use Rattle.tracking_laws.specs.Causes.{RememberedIsRead, GoneIsForgotten}
 use Rattle.serial_model.proofs.KeptTables.{is_table, is_table_then, is_table_grown}
 use Rattle.serial_model.proofs.KeptTables.{table_without_signalled}
 use Rattle.tracking_laws.proofs.Holders.{holds_with_keys, holds_without_keys, holds_freed}
 use Rattle.tracking_laws.proofs.Holders.{held_drop, none_behind}
 use Rattle.tracking_laws.proofs.Quits.{run_kept}
-use Rattle.tracking_laws.proofs.Remembering.{own_memory, Brings}
+use Rattle.tracking_laws.proofs.Remembering.{made_memory, Brings}
 use Rattle.std.proofs.lemmas.Bool.{or_left, and_parts, both_ways, false_from_ne_true}
 
 module _ (c : ℕ) (key : List ℕ) where
@@ -64,17 +62,16 @@ module _ (l : Limits) (past : List Entry) (c : ℕ) (key : List ℕ) where
       → remembers (table_grown l past id words moment) c key ≡ true
       → (remembers (without_signalled (signals l past id words moment) (table_then l past moment))
       c key || reads_key l (Run id words moment) past c key) ≡ true
-  unfolding made_of
   grown_is id words moment e =
       let then = table_then l past moment in
       let sig = signals l past id words moment in
       let m = mode l id past in
-      let own = held_remembering c key id (made l past id words).memory
-      (cond (remembers_read m) (keys_read (served_reading words)) []) (without_signalled sig then)
+      let own = held_remembering c key id (made l past id words moment).memory
+      (cond (keeps_reads m) (keys_read (served_reading words)) []) (without_signalled sig then)
       (table_without_signalled sig then (is_table_then l past moment)).ordered
-      (own_memory (reading words) (runner l past id words)) e in
+      (made_memory words (runner l past id words moment)) e in
       ap (λ b. has_id c (holders_of key (without_signalled sig then)) || ((id == c) && b))
-      (sym (among (remembers_read m) (keys_read (served_reading words)))) ∙ own
+      (sym (among (keeps_reads m) (keys_read (served_reading words)))) ∙ own
 
   -- what stands in the table of a Run where its command signals stood there before
   pub then_is : (moment : ℕ) → remembers (table_then l past moment) c key

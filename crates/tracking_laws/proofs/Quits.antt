@@ -1,6 +1,6 @@
 -- Who ends by a Run: its connection, where it quits. What that leaves of the table.
 use Rattle.std.proofs.Common.{◌≡◌, ◌∙◌, ◌-◌, ◌⊎◌, ℕ, zero, suc, List, [], ◌∷◌, Bool, true}
-use Rattle.std.proofs.Common.{false, Ok, Result, ap, arith, cond, drop, inl, inr, length, sym}
+use Rattle.std.proofs.Common.{false, Ok, Result, ap, arith, cond, drop, inl, inr, length, refl, sym}
 use Rattle.std.specs.Prelude.{◌==◌, ◌&&◌, ◌||◌, nat_le, nat_lt}
 use Rattle.std.proofs.lemmas.Bool.{and_parts, both_ways, cases_Bool, eqb-true}
 use Rattle.std.proofs.lemmas.Bool.Decides.{nat_tests}
@@ -21,14 +21,14 @@ use Rattle.serial_model.specs.declared.history.Entry.TheVariants.{Run}
 use Rattle.serial_model.specs.Modes.{Ending, ending_of, is_quitting, is_stopping, own_effect}
 use Rattle.serial_model.specs.State.{State, for_each, is_live}
 use Rattle.serial_model.specs.Tracking.{has_id, ids_where, remembering, without_signalled}
-use Rattle.serial_model.specs.History.{effect_of, is_quit, keyspace, made_of, ran_over}
+use Rattle.serial_model.specs.History.{effect_of, is_quit, keyspace}
 use Rattle.serial_model.specs.History.{runner, runs_on, served_reading, state, table, table_grown}
 use Rattle.serial_model.specs.History.{table_then}
 use Rattle.serial_model.specs.Laws.{is_among, remembers}
 use Rattle.serial_model.proofs.Counts.{on_is}
 use Rattle.serial_model.proofs.KeptTables.{is_table_grown}
 use Rattle.serial_model.proofs.KeyHolders.{without_other}
-use Rattle.serial_model.proofs.ServedRows.{none_stops}
+use Rattle.serial_model.proofs.ServedRows.{none_stops, ran_cases}
 use Rattle.serial_model.proofs.StateSteps.{run_ends}
 use Rattle.tracking_laws.specs.Drops.{without_quit}
 use Rattle.tracking_laws.proofs.Holders.{holds_freed}
@@ -96,15 +96,19 @@ module _ (l : Limits) (past : List Entry) (id : ℕ) (words : List (List ℕ)) (
 
   -- QUIT signals and remembers nothing
   pub quit_grown : is_quit words ≡ true → grown ≡ table_then l past moment
-  unfolding made_of ran_over fault_at
+  unfolding fault_at
   quit_grown h =
-      let by = runner l past id words in
+      let by = runner l past id words moment in
       let then = table_then l past moment in
       let space = without_due moment (keyspace l past) in
-      ap (λ r. remembering id (own_effect r by).memory
+      ran_cases by words
+      (λ ran made. remembering id made.memory (without_signalled ran.signalled then) ≡ then)
+      space moment
+      (ap (λ r. remembering id (own_effect r by).memory
       (without_signalled (effect_of by words r space moment).signalled then))
       (quit_is (served_reading words) h)
-      ∙ none (remembers_read by.mode) then
+      ∙ none (remembers_read by.mode) then)
+      refl
     where
       none : (b : Bool) (rows : List Held) → with_keys id (cond b [] []) rows ≡ rows
       none b rows = grind arith

@@ -3,7 +3,6 @@ use Rattle.std.proofs.Common.{◌≡◌, ◌∙◌, ◌⊎◌, ◌+◌, ◌-◌,
 use Rattle.std.proofs.Common.{false, cond, length, ap, sym, subst, arith, refl, ◌++◌}
 use Rattle.std.specs.Prelude.{◌&&◌, ◌||◌, not}
 use Rattle.command_words.specs.Expiry.{without_due}
-use Rattle.command_words.specs.Words.{reading}
 use Rattle.command_words.specs.declared.command.Signalled.{Signalled}
 use Rattle.command_words.specs.declared.command.Signalled.TheVariants.{Keys, All}
 use Rattle.track_table.specs.declared.table.Held.{Held}
@@ -20,12 +19,12 @@ use Rattle.tracking_laws.proofs.Invalidations.{tick_told}
 use Rattle.tracking_laws.proofs.Prefixes.{times_has, whole_times}
 use Rattle.serial_model.specs.History.{state, table, table_then, table_grown, expired, signals}
 use Rattle.serial_model.specs.History.{drops, expiry_group, run_action}
-use Rattle.serial_model.specs.History.{invalidations, keyspace, runner, ran_over}
+use Rattle.serial_model.specs.History.{invalidations, keyspace, runner}
 use Rattle.serial_model.specs.Laws.{is_among, remembers, drops_key, has_prefix_of}
 use Rattle.tracking_laws.specs.Told.{once, times_told, is_signalled, ToldByName, ToldIsAsked}
 use Rattle.tracking_laws.specs.Told.{ToldOnce, is_flush, passes_over, reads_key, times_in}
 use Rattle.tracking_laws.specs.Told.{times_registered, where_so}
-use Rattle.tracking_laws.proofs.Remembering.{signals_or_reads}
+use Rattle.tracking_laws.proofs.Remembering.{ran_signals_or_reads}
 use Rattle.tracking_laws.proofs.Owned.{grown_is, before_read, then_is}
 use Rattle.serial_model.proofs.KeptTables.{is_table, is_table_then, is_table_grown}
 use Rattle.serial_model.proofs.KeptPrefixes.{AllAscend, prefixes_ascend}
@@ -153,11 +152,10 @@ module _ (l : Limits) (past : List Entry) (c : ℕ) (key : List ℕ) (id : ℕ)
       ∙ grown_is l past c key id words moment e
 
   run_apart : (named ≡ false) ⊎ (own ≡ false)
-  unfolding ran_over
   run_apart =
       grind (
         arith,
-        signals_or_reads (runner l past id words) words (reading words)
+        ran_signals_or_reads (runner l past id words moment) words
             (without_due moment (keyspace l past)) moment,
       )
 

@@ -8,7 +8,7 @@ use Rattle.tracking_laws.specs.Causes.{RememberedIsRead, RememberedIsTracked, Le
 use Rattle.tracking_laws.specs.Causes.{EachReadIsOwedOrTold, EachReadIsRemembered}
 use Rattle.tracking_laws.specs.Causes.{GoneIsForgotten}
 use Rattle.tracking_laws.specs.Drops.{DropsOldest}
-use Rattle.tracking_laws.specs.Sent.{SentIsTold}
+use Rattle.tracking_laws.specs.Sent.{OnlyAnswered, SentIsTold}
 
 -- what holds of each entry on its past
 abbrev pub OfEachEntry : (Limits → Entry → List Entry → Type 0) → Type 0
@@ -26,6 +26,7 @@ pub record EntryTellsExactly (l : Limits) (entry : Entry) (past : List Entry) : 
   pub asked : ToldIsAsked l entry past
   pub once : ToldOnce l entry past
   pub sent : SentIsTold l entry past
+  pub answered : OnlyAnswered l entry past
   pub read : RememberedIsRead l entry past
   pub tracked : RememberedIsTracked l (entry ∷ past)
   pub own_read : EachReadIsRemembered l entry past

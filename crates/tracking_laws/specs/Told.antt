@@ -15,7 +15,8 @@ use Rattle.prefix_table.specs.declared.table.Registration.{Registration}
 use Rattle.serial_model.specs.declared.history.Limits.{Limits}
 use Rattle.serial_model.specs.declared.history.Entry.{Entry}
 use Rattle.serial_model.specs.declared.history.Entry.TheVariants.{Run, Tick}
-use Rattle.track_modes.specs.ModeState.{remembers_read}
+use Rattle.track_modes.specs.ModeState.{ModeState, remembers_read}
+use Rattle.serial_model.specs.Modes.{is_confined}
 use Rattle.serial_model.specs.Tracking.{Invalidation, has_id}
 use Rattle.serial_model.specs.Actions.{is_passed}
 use Rattle.serial_model.specs.History.{expired, signals, served_reading, mode, table, table_then}
@@ -113,11 +114,15 @@ abbrev pub keys_read : Result Command WordFault → List (List ℕ)
 keys_read (Ok command) = read command
 keys_read (Err fault) = []
 
+-- a mode that allows a read and remembers it
+abbrev pub keeps_reads : ModeState → Bool
+keeps_reads m = not (is_confined m) && remembers_read m
+
 -- the entry is this connection's own read of the key, which it remembers
 abbrev pub reads_key : Limits → Entry → List Entry → ℕ → List ℕ → Bool
 reads_key l (Run id words moment) past c key =
     (id == c)
-    && (remembers_read (mode l id past) && is_among (keys_read (served_reading words)) key)
+    && (keeps_reads (mode l id past) && is_among (keys_read (served_reading words)) key)
 reads_key l _ past c key = false
 
 -- ---- the laws of one entry

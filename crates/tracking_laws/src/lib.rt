@@ -6,7 +6,7 @@ ghost use Rattle.tracking_laws.specs.Causes.{EachReadIsOwedOrTold, EachReadIsRem
 ghost use Rattle.tracking_laws.specs.Causes.{GoneIsForgotten, LeavesForCause, RememberedIsRead};
 ghost use Rattle.tracking_laws.specs.Drops.{DropsOldest};
 ghost use Rattle.tracking_laws.specs.Laws.{LegalTellsExactly, OfEachEntry, OfEachLegal};
-ghost use Rattle.tracking_laws.specs.Sent.{SentIsTold};
+ghost use Rattle.tracking_laws.specs.Sent.{OnlyAnswered, SentIsTold};
 ghost use Rattle.tracking_laws.specs.Told.{ToldByName, ToldIsAsked, ToldOfAll, ToldOnce};
 
 /// At each entry a connection is told of a key by name exactly where the key leaves the table while
@@ -54,10 +54,12 @@ pub fn law_each_read_is_owed_or_told()
     ensures remembered { OfEachEntry EachReadIsRemembered }
 {}
 
-/// An entry sends a connection a message for each time that it tells it, and beside these its reply
-/// and its end alone, which a QUIT sends too.
+/// An entry sends a connection a message for each time that it tells one whose messages go to it,
+/// and beside these its reply and its end alone, which a QUIT sends too. On the second protocol,
+/// not subscribed, it is sent no message.
 pub fn law_sent_is_told()
-    ensures { OfEachEntry SentIsTold }
+    ensures told { OfEachEntry SentIsTold }
+    ensures answered { OfEachEntry OnlyAnswered }
 {}
 
 /// All of this holds of each entry of a legal history.

@@ -40,9 +40,9 @@ const COMMANDS: &str = "\
 1 0 CLIENT TRACKING ON OPTOUT: 28 \\e 1:62
 1 999 take: 29 -ERR\\sOPTIN\\sand\\sOPTOUT\\scan't\\sbe\\sswitched\\s\
     while\\stracking\\sis\\son\\r\\n -
-1 0 CLIENT TRACKING ON REDIRECT 1: 30 \\e 1:25
+1 0 CLIENT TRACKING ON REDIRECT 1: 30 \\e 1:5
 1 0 RESET: 31 \\e 1:8
-1 9999 take: 32 -ERR\\sunknown\\ssubcommand\\r\\n+RESET\\r\\n -
+1 9999 take: 32 +OK\\r\\n+RESET\\r\\n -
 1 0 CLIENT TRACKINGINFO: 33 \\e 1:65
 1 999 take: 34 *6\\r\\n$5\\r\\nflags\\r\\n*1\\r\\n$3\\r\\noff\\r\\n$8\\r\\nredirect\\r\\n\
     :-1\\r\\n$8\\r\\nprefixes\\r\\n*0\\r\\n -
@@ -95,9 +95,9 @@ const COMMANDS_ON_RESP3: &str = "\
 1 0 CLIENT TRACKING ON OPTOUT: 30 \\e 1:62
 1 999 take: 31 -ERR\\sOPTIN\\sand\\sOPTOUT\\scan't\\sbe\\sswitched\\s\
     while\\stracking\\sis\\son\\r\\n -
-1 0 CLIENT TRACKING ON REDIRECT 1: 32 \\e 1:25
+1 0 CLIENT TRACKING ON REDIRECT 1: 32 \\e 1:5
 1 0 RESET: 33 \\e 1:8
-1 9999 take: 34 -ERR\\sunknown\\ssubcommand\\r\\n+RESET\\r\\n -
+1 9999 take: 34 +OK\\r\\n+RESET\\r\\n -
 1 0 CLIENT TRACKINGINFO: 35 \\e 1:65
 1 999 take: 36 *6\\r\\n$5\\r\\nflags\\r\\n*1\\r\\n$3\\r\\noff\\r\\n$8\\r\\nredirect\\r\\n\
     :-1\\r\\n$8\\r\\nprefixes\\r\\n*0\\r\\n -

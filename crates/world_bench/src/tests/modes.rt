@@ -117,8 +117,8 @@ w < +OK\\r\\n
 #2 run r CLIENT TRACKING ON REDIRECT 1
 #3 run r SUBSCRIBE a
 #4 run r SHUTDOWN
-#5 take r 69
-r < -ERR\\sunknown\\ssubcommand\\r\\n-ERR\\sunknown\\scommand\\r\\n-ERR\\sunknown\\scommand\\r\\n";
+#5 take r 52
+r < +OK\\r\\n-ERR\\schannel\\snot\\sserved\\r\\n-ERR\\sunknown\\scommand\\r\\n";
 
 #[test]
 fn a_connection_is_told_of_itself(rt: HostRuntime) -> Result<(), Fail> {

@@ -1,6 +1,6 @@
 //! A client, for the reference player: what it holds, answers and puts on its link is worked out
 //! anew from the list of all that it did and was given. It has no marks, no cache and no counts.
-use super::reference_server::{Opts, Request, Tracks, names, request_of};
+use super::reference_modes::{Opts, Request, Tracks, names, request_of};
 use command_words::{Query, put_printed};
 use resp_value::{NoMemory, Octets, Value, Words, put_request};
 use std::alloc::Global;

@@ -1,7 +1,8 @@
 //! The links of the reference player. It keeps the list of entries, the bytes in flight and what
 //! each end has read, and works out all else anew at each event.
 use super::reference_client::{Client, Deed};
-use super::reference_server::{all_sent, has_quit, run_entry, stream};
+use super::reference_modes::has_quit;
+use super::reference_server::{all_sent, run_entry, stream};
 use resp_stream::{FaultPlace, RequestReader, ValueReader};
 use resp_value::{NoMemory, Octets, Words};
 use script_text::{Line, put_line};

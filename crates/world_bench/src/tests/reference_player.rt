@@ -4,7 +4,7 @@
 //! client's state or a limit.
 use super::reference_client::{Client, Deed, Held, shown};
 use super::reference_links::{Past, Wire};
-use super::reference_server::{Opts, Tracks, names};
+use super::reference_modes::{Opts, Tracks, names};
 use command_words::{Query, is_control};
 use resp_value::{NoMemory, Octets, Proto, Words, put_request};
 use script_text::{Event, Line};
@@ -30,6 +30,7 @@ fn tracks_of(mode: &ClientMode) -> Option<Tracks> {
     Some(Tracks {
         opts,
         noloop: mode.noloop,
+        redirect: 0,
     })
 }
 

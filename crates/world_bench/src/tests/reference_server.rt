@@ -1,44 +1,9 @@
-//! What a list of entries says of the server, for the reference player: each answer by a look at
-//! all of the list. It knows GET, SET, HELLO, PING, QUIT, CLIENT CACHING, and CLIENT TRACKING with
-//! OPTIN or OPTOUT, or with BCAST and prefixes, and with NOLOOP.
+//! What a list of entries says of the server, for the reference player: what each request does and
+//! is answered, who is told of which keys, and what is sent where; by going through the list once.
+use super::reference_modes::{CHANNEL, Own, Request, has_quit, is_on, request_of};
 use resp_value::{NoMemory, Octets, Proto, Words};
 use serial_model::Entry;
 use std::alloc::Global;
-
-/// Which of the keys that a connection reads it is told of.
-#[derive(Clone, Copy, PartialEq, Eq)]
-pub enum Opts {
-    All,
-    /// Of a read behind CLIENT CACHING YES.
-    In,
-    /// Of a read that is not behind CLIENT CACHING NO.
-    Out,
-    /// Of all that begin with one of its prefixes, whoever reads them.
-    Bcast,
-}
-
-/// How a connection tracks.
-#[derive(Clone, Copy)]
-pub struct Tracks {
-    pub opts: Opts,
-    /// It is not told of what it writes itself.
-    pub noloop: bool,
-}
-
-/// What words ask for, or the reply that refuses them.
-#[derive(Clone, Copy)]
-pub enum Request<'a> {
-    Get(&'a [u8]),
-    Set(&'a [u8], &'a [u8]),
-    Hello(Option<Proto>),
-    Ping,
-    Quit,
-    /// On, or off.
-    Track(Option<Tracks>),
-    /// CLIENT CACHING YES, or NO.
-    Mark(bool),
-    Wrong(&'a [u8]),
-}
 
 /// What an entry sent to a connection: the bytes of a message, or none for its end.
 #[derive(Drop)]
@@ -54,286 +19,18 @@ struct Row {
     holders: Vec<u64>,
 }
 
-fn is(word: &Octets, text: &[u8]) -> bool {
-    word.as_slice().eq_ignore_ascii_case(text)
-}
-
-fn has(options: &[Octets], text: &[u8]) -> bool {
-    options.iter().any(|option| is(option, text))
-}
-
-// Of options that do not exclude each other.
-fn tracking_request(options: &[Octets]) -> Tracks {
-    let opts = if has(options, b"optin") {
-        Opts::In
-    } else if has(options, b"optout") {
-        Opts::Out
-    } else if has(options, b"bcast") {
-        Opts::Bcast
-    } else {
-        Opts::All
-    };
-    Tracks {
-        opts,
-        noloop: has(options, b"noloop"),
-    }
-}
-
-fn client_request(rest: &[Octets]) -> Request<'_> {
-    match rest {
-        [name, word, options @ ..] if is(name, b"tracking") && is(word, b"on") => {
-            Request::Track(Some(tracking_request(options)))
-        }
-        [name, word] if is(name, b"tracking") && is(word, b"off") => Request::Track(None),
-        [name, word] if is(name, b"caching") => Request::Mark(is(word, b"yes")),
-        _ => Request::Wrong(b"-ERR unknown subcommand\r\n"),
-    }
-}
-
-fn hello_request(rest: &[Octets]) -> Request<'_> {
-    match rest {
-        [] => Request::Hello(None),
-        [word] if is(word, b"2") => Request::Hello(Some(Proto::Two)),
-        [word] if is(word, b"3") => Request::Hello(Some(Proto::Three)),
-        _ => Request::Wrong(b"-NOPROTO unsupported protocol version\r\n"),
-    }
-}
-
-pub fn request_of(words: &Words) -> Request<'_> {
-    let [name, rest @ ..] = words.as_slice() else {
-        return Request::Wrong(b"");
-    };
-    if is(name, b"hello") {
-        return hello_request(rest);
-    }
-    if is(name, b"client") {
-        return client_request(rest);
-    }
-    let is_get = is(name, b"get");
-    let is_set = is(name, b"set");
-    match rest {
-        [] if is(name, b"ping") => Request::Ping,
-        [] if is(name, b"quit") => Request::Quit,
-        [key] if is_get => Request::Get(key.as_slice()),
-        _ if is_get => Request::Wrong(b"-ERR wrong number of arguments for 'get' command\r\n"),
-        [key, value] if is_set => Request::Set(key.as_slice(), value.as_slice()),
-        [_, _, _, ..] if is_set => Request::Wrong(b"-ERR syntax error\r\n"),
-        _ if is_set => Request::Wrong(b"-ERR wrong number of arguments for 'set' command\r\n"),
-        _ => Request::Wrong(b"-ERR unknown command\r\n"),
-    }
-}
-
-/// Whether the words name the key, as one that they read or write.
-pub fn names(words: &Words, key: &[u8]) -> bool {
-    match request_of(words) {
-        Request::Get(read) => read == key,
-        Request::Set(written, _) => written == key,
-        _ => false,
-    }
-}
-
-// The protocol that the last HELLO of a connection set.
-fn proto_of(id: u64, past: &[Entry]) -> Proto {
-    for entry in past.iter().rev() {
-        if let Entry::Run { id: by, words, .. } = entry {
-            if let Request::Hello(Some(proto)) = request_of(words) {
-                if *by == id {
-                    return proto;
-                }
-            }
-        }
-    }
-    Proto::Two
-}
-
-// ---- what the own words of a connection made of it
-
-// The prefixes behind the words CLIENT TRACKING ON; the empty one where there is BCAST alone.
-fn asked_prefixes(alloc: Global, words: &Words) -> Result<Vec<Octets>, NoMemory> {
-    let mut prefixes = Vec::new(alloc);
-    let mut is_next = false;
-    for word in words.as_slice() {
-        if is_next {
-            prefixes.push(word.copy()?)?;
-        }
-        is_next = !is_next && is(word, b"prefix");
-    }
-    if prefixes.is_empty() && has(words.as_slice(), b"bcast") {
-        prefixes.push(Octets::from_slice(alloc, b"")?)?;
-    }
-    Ok(prefixes)
-}
-
-fn meet(one: &Octets, other: &Octets) -> bool {
-    let (one, other) = (one.as_slice(), other.as_slice());
-    one.starts_with(other) || other.starts_with(one)
-}
-
-// Two of the prefixes asked for overlap, or one of them and one that is registered.
-fn overlap(asked: &[Octets], registered: &[Octets]) -> bool {
-    let mut place = 0usize;
-    for prefix in asked {
-        place = place.saturating_add(1);
-        let is_met = registered.iter().any(|other| meet(prefix, other));
-        if is_met || asked.iter().skip(place).any(|other| meet(prefix, other)) {
-            return true;
-        }
-    }
-    false
-}
-
-// Tracking that is on and is told so can't be told otherwise.
-fn switch_fault(tracks: Opts, asked: Opts) -> Option<&'static [u8]> {
-    match (tracks, asked) {
-        (Opts::In, Opts::Out) | (Opts::Out, Opts::In) => {
-            Some(b"-ERR OPTIN and OPTOUT can't be switched while tracking is on\r\n")
-        }
-        (Opts::Bcast, Opts::Bcast) => None,
-        (Opts::Bcast, _) | (_, Opts::Bcast) => {
-            Some(b"-ERR BCAST can't be switched while tracking is on\r\n")
-        }
-        _ => None,
-    }
-}
-
-// What refuses CLIENT CACHING, if anything does.
-fn mark_fault(is_yes: bool, opts: Opts) -> Option<&'static [u8]> {
-    match (opts, is_yes) {
-        (Opts::In, true) | (Opts::Out, false) => None,
-        (Opts::In, false) => Some(b"-ERR CLIENT CACHING NO needs OPTOUT\r\n"),
-        (Opts::Out, true) => Some(b"-ERR CLIENT CACHING YES needs OPTIN\r\n"),
-        (Opts::All | Opts::Bcast, _) => Some(b"-ERR CLIENT CACHING needs OPTIN or OPTOUT\r\n"),
-    }
-}
-
+/// What a SET wrote.
 #[derive(Drop)]
-struct Own {
-    alloc: Global,
-    tracks: Option<Tracks>,
-    prefixes: Vec<Octets>,
-    /// Its last words are a CLIENT CACHING that was not refused.
-    is_marked: bool,
+struct Text {
+    key: Octets,
+    value: Octets,
 }
 
-impl Own {
-    fn new(alloc: Global) -> Own {
-        Own {
-            alloc,
-            tracks: None,
-            prefixes: Vec::new(alloc),
-            is_marked: false,
-        }
-    }
-
-    fn opts(&self) -> Opts {
-        match self.tracks {
-            Some(tracks) => tracks.opts,
-            None => Opts::All,
-        }
-    }
-
-    fn track_fault(&self, asked: Tracks, words: &Words) -> Result<Option<&'static [u8]>, NoMemory> {
-        if self.tracks.is_some() {
-            if let Some(fault) = switch_fault(self.opts(), asked.opts) {
-                return Ok(Some(fault));
-            }
-        }
-        let prefixes = asked_prefixes(self.alloc, words)?;
-        let is_named = has(words.as_slice(), b"prefix");
-        if is_named && overlap(prefixes.as_slice(), self.prefixes.as_slice()) {
-            return Ok(Some(b"-ERR prefixes must not overlap\r\n"));
-        }
-        Ok(None)
-    }
-
-    // What refuses its next words, if anything does.
-    fn fault(&self, words: &Words) -> Result<Option<&'static [u8]>, NoMemory> {
-        match request_of(words) {
-            Request::Track(Some(asked)) => self.track_fault(asked, words),
-            Request::Mark(is_yes) => Ok(mark_fault(is_yes, self.opts())),
-            _ => Ok(None),
-        }
-    }
-
-    fn forget(&mut self) {
-        self.tracks = None;
-        self.prefixes.clear();
-    }
-
-    fn hear(&mut self, words: &Words) -> Result<(), NoMemory> {
-        let is_refused = self.fault(words)?.is_some();
-        self.is_marked = !is_refused && matches!(request_of(words), Request::Mark(_));
-        match request_of(words) {
-            Request::Track(Some(asked)) if !is_refused => {
-                self.tracks = Some(asked);
-                for prefix in asked_prefixes(self.alloc, words)? {
-                    self.prefixes.push(prefix)?;
-                }
-            }
-            Request::Track(None) | Request::Quit => self.forget(),
-            _ => {}
-        }
-        Ok(())
-    }
-
-    fn hear_all(&mut self, id: u64, past: &[Entry]) -> Result<(), NoMemory> {
-        for entry in past {
-            match entry {
-                Entry::Run { id: by, words, .. } if *by == id => self.hear(words)?,
-                Entry::Close { id: by } if *by == id => self.forget(),
-                _ => {}
-            }
-        }
-        Ok(())
-    }
-
-    // Whether a key that it reads next is remembered for it.
-    fn remembers(&self) -> bool {
-        match self.tracks {
-            None => false,
-            Some(tracks) => match tracks.opts {
-                Opts::All => true,
-                Opts::In => self.is_marked,
-                Opts::Out => !self.is_marked,
-                Opts::Bcast => false,
-            },
-        }
-    }
-
-    fn has_noloop(&self) -> bool {
-        match self.tracks {
-            Some(tracks) => tracks.noloop,
-            None => false,
-        }
-    }
-}
-
-fn own_in(alloc: Global, id: u64, past: &[Entry]) -> Result<Own, NoMemory> {
-    let mut own = Own::new(alloc);
-    own.hear_all(id, past)?;
-    Ok(own)
-}
-
-/// Whether a connection said QUIT.
-pub fn has_quit(id: u64, past: &[Entry]) -> bool {
-    past.iter().any(|entry| match entry {
-        Entry::Run { id: by, words, .. } => *by == id && matches!(request_of(words), Request::Quit),
-        _ => false,
-    })
-}
-
-// The value that the last SET of the key wrote, where there is one.
-fn value_of<'a>(key: &[u8], past: &'a [Entry]) -> Option<&'a [u8]> {
-    for entry in past.iter().rev() {
-        if let Entry::Run { words, .. } = entry {
-            if let Request::Set(set, value) = request_of(words) {
-                if set == key {
-                    return Some(value);
-                }
-            }
-        }
-    }
-    None
+/// A connection that is told of a key, whatever the route.
+#[derive(Drop)]
+struct Told {
+    to: u64,
+    key: Octets,
 }
 
 fn put_number(number: u64, out: &mut Vec<u8>) -> Result<(), NoMemory> {
@@ -367,29 +64,51 @@ fn put_greeting(proto: Proto, id: u64, out: &mut Vec<u8>) -> Result<(), NoMemory
     Ok(())
 }
 
-// The bytes of the reply to a request of a connection after those entries.
-fn put_reply(id: u64, words: &Words, past: &[Entry], out: &mut Vec<u8>) -> Result<(), NoMemory> {
-    let proto = proto_of(id, past);
-    let fault = own_in(*out.allocator(), id, past)?.fault(words)?;
-    let text: &[u8] = match request_of(words) {
-        Request::Get(key) => match (value_of(key, past), proto) {
-            (Some(value), _) => return put_blob(value, out),
-            (None, Proto::Two) => b"$-1\r\n",
-            (None, Proto::Three) => b"_\r\n",
-        },
-        Request::Set(_, _) | Request::Quit => b"+OK\r\n",
-        Request::Track(_) | Request::Mark(_) => fault.unwrap_or(b"+OK\r\n"),
-        Request::Ping => b"+PONG\r\n",
-        Request::Hello(asked) => return put_greeting(asked.unwrap_or(proto), id, out),
-        Request::Wrong(text) => text,
+// What is subscribed to or left, and to how many channels the connection is then subscribed.
+fn put_subscription(
+    word: &[u8],
+    channel: Option<&[u8]>,
+    is_subscribed: bool,
+    proto: Proto,
+    out: &mut Vec<u8>,
+) -> Result<(), NoMemory> {
+    let (head, none): (&[u8], &[u8]) = match proto {
+        Proto::Two => (b"*3\r\n", b"$-1\r\n"),
+        Proto::Three => (b">3\r\n", b"_\r\n"),
     };
-    out.extend_from_slice(text)?;
+    out.extend_from_slice(head)?;
+    put_blob(word, out)?;
+    match channel {
+        Some(channel) => put_blob(channel, out)?,
+        None => out.extend_from_slice(none)?,
+    }
+    let count: &[u8] = if is_subscribed { b":1\r\n" } else { b":0\r\n" };
+    out.extend_from_slice(count)?;
     Ok(())
 }
 
-fn put_invalidation(key: &[u8], out: &mut Vec<u8>) -> Result<(), NoMemory> {
-    out.extend_from_slice(b">2\r\n$10\r\ninvalidate\r\n*1\r\n")?;
-    put_blob(key, out)
+// Without a channel it leaves the one that it is subscribed to, if it is.
+fn put_left(own: &Own, asked: Option<&[u8]>, out: &mut Vec<u8>) -> Result<(), NoMemory> {
+    let channel = match asked {
+        None if own.is_subscribed => Some(CHANNEL),
+        _ => asked,
+    };
+    let stays = own.is_subscribed && channel != Some(CHANNEL);
+    put_subscription(b"unsubscribe", channel, stays, own.proto, out)
+}
+
+fn put_value(value: Option<&[u8]>, proto: Proto, out: &mut Vec<u8>) -> Result<(), NoMemory> {
+    let none: &[u8] = match proto {
+        Proto::Two => b"$-1\r\n",
+        Proto::Three => b"_\r\n",
+    };
+    match value {
+        Some(value) => put_blob(value, out),
+        None => {
+            out.extend_from_slice(none)?;
+            Ok(())
+        }
+    }
 }
 
 // ---- who is told of which keys
@@ -398,7 +117,8 @@ fn holds(row: &Row, id: u64) -> bool {
     row.holders.iter().any(|holder| *holder == id)
 }
 
-fn remember(alloc: Global, id: u64, key: &[u8], rows: &mut Vec<Row>) -> Result<(), NoMemory> {
+fn remember(id: u64, key: &[u8], rows: &mut Vec<Row>) -> Result<(), NoMemory> {
+    let alloc = *rows.allocator();
     for row in rows.iter_mut() {
         if row.key.as_slice() == key {
             if !holds(row, id) {
@@ -422,21 +142,15 @@ fn let_go(id: u64, rows: &mut Vec<Row>) {
     rows.retain(|row| !row.holders.is_empty());
 }
 
-// What a Run leaves of the rows.
-fn run_rows(
-    alloc: Global,
-    past: &[Entry],
-    by: u64,
-    words: &Words,
-    rows: &mut Vec<Row>,
-) -> Result<(), NoMemory> {
+// What a Run of words that nothing bars leaves of the rows.
+fn run_rows(by: u64, own: &Own, words: &Words, rows: &mut Vec<Row>) -> Result<(), NoMemory> {
     match request_of(words) {
-        Request::Get(key) if own_in(alloc, by, past)?.remembers() => remember(alloc, by, key, rows),
+        Request::Get(key) if own.remembers() => remember(by, key, rows),
         Request::Set(key, _) => {
             rows.retain(|row| row.key.as_slice() != key);
             Ok(())
         }
-        Request::Track(None) | Request::Quit => {
+        Request::Track(None) | Request::Quit | Request::Reset => {
             let_go(by, rows);
             Ok(())
         }
@@ -444,18 +158,27 @@ fn run_rows(
     }
 }
 
-// The first rows are dropped where there are too many; the keys of those that a connection holds.
+// The holders of a row are told of it in order of their ids.
+fn tell_holders(row: &Row, last: u64, told: &mut Vec<Told>) -> Result<(), NoMemory> {
+    for id in 1..last.saturating_add(1) {
+        if holds(row, id) {
+            let key = row.key.copy()?;
+            told.push(Told { to: id, key })?;
+        }
+    }
+    Ok(())
+}
+
+// The first rows are dropped where there are too many, and their holders are told.
 fn drop_first(
     table_max: usize,
-    to: u64,
+    last: u64,
     rows: &mut Vec<Row>,
-    told: &mut Vec<Octets>,
+    told: &mut Vec<Told>,
 ) -> Result<(), NoMemory> {
     let over = rows.len().saturating_sub(table_max);
     for row in rows.iter().take(over) {
-        if holds(row, to) {
-            told.push(row.key.copy()?)?;
-        }
+        tell_holders(row, last, told)?;
     }
     rows.reverse();
     rows.truncate(table_max);
@@ -463,41 +186,103 @@ fn drop_first(
     Ok(())
 }
 
-// A key that was written is told once to a connection that holds it, and once for each of the
-// prefixes that it begins with.
-fn tell_written(
-    to: u64,
-    own: &Own,
+// Those that registered the prefix are told of the key in order of their ids.
+fn tell_registered(
     key: &[u8],
-    rows: &[Row],
-    told: &mut Vec<Octets>,
+    prefix: &[u8],
+    all: &[Own],
+    told: &mut Vec<Told>,
 ) -> Result<(), NoMemory> {
-    for row in rows {
-        if row.key.as_slice() == key && holds(row, to) {
-            told.push(row.key.copy()?)?;
+    let mut to = 0u64;
+    for own in all {
+        to = to.saturating_add(1);
+        if own.prefixes.iter().any(|other| other.as_slice() == prefix) {
+            let key = Octets::from_slice(*told.allocator(), key)?;
+            told.push(Told { to, key })?;
         }
     }
-    for prefix in own.prefixes.iter() {
-        if key.starts_with(prefix.as_slice()) {
-            told.push(Octets::from_slice(own.alloc, key)?)?;
+    Ok(())
+}
+
+// A key that was written is told to those that hold it, and then to those that registered one of
+// its prefixes, the shortest prefix first: these are in order of their bytes.
+fn tell_written(
+    key: &[u8],
+    rows: &[Row],
+    all: &[Own],
+    told: &mut Vec<Told>,
+) -> Result<(), NoMemory> {
+    for row in rows {
+        if row.key.as_slice() == key {
+            tell_holders(row, all.len() as u64, told)?;
         }
+    }
+    for length in 0..key.len().saturating_add(1) {
+        tell_registered(key, &key[..length.min(key.len())], all, told)?;
     }
     Ok(())
 }
 
 // ---- what is sent
 
-/// A connection, and what entries sent to it.
+fn put_invalidation(key: &[u8], out: &mut Vec<u8>) -> Result<(), NoMemory> {
+    out.extend_from_slice(b">2\r\n$10\r\ninvalidate\r\n*1\r\n")?;
+    put_blob(key, out)
+}
+
+fn put_message(key: &[u8], out: &mut Vec<u8>) -> Result<(), NoMemory> {
+    out.extend_from_slice(b"*3\r\n$7\r\nmessage\r\n")?;
+    put_blob(CHANNEL, out)?;
+    out.extend_from_slice(b"*1\r\n")?;
+    put_blob(key, out)
+}
+
+fn put_notice(target: u64, out: &mut Vec<u8>) -> Result<(), NoMemory> {
+    out.extend_from_slice(b">2\r\n$21\r\ntracking-redir-broken\r\n:")?;
+    put_number(target, out)?;
+    out.extend_from_slice(b"\r\n")?;
+    Ok(())
+}
+
+// In the form of the protocol and the state that the receiver has.
+fn put_received(own: &Own, key: &[u8], out: &mut Vec<u8>) -> Result<(), NoMemory> {
+    match own.proto {
+        Proto::Three => put_invalidation(key, out),
+        Proto::Two if own.is_subscribed => put_message(key, out),
+        Proto::Two => Ok(()),
+    }
+}
+
+fn place_of(id: u64) -> usize {
+    id.saturating_sub(1) as usize
+}
+
+/// A connection, what entries left of all connections, in order of their ids, and of the keys, and
+/// what they sent to it.
 #[derive(Drop)]
 struct Listener {
     alloc: Global,
     table_max: usize,
     id: u64,
+    all: Vec<Own>,
+    texts: Vec<Text>,
     rows: Vec<Row>,
     sent: Vec<Sent>,
 }
 
 impl Listener {
+    fn new(alloc: Global, table_max: usize, id: u64) -> Listener {
+        Listener {
+            alloc,
+            table_max,
+            id,
+            all: Vec::new(alloc),
+            texts: Vec::new(alloc),
+            rows: Vec::new(alloc),
+            sent: Vec::new(alloc),
+        }
+    }
+
     fn push(&mut self, entry: usize, bytes: Vec<u8>) -> Result<(), NoMemory> {
         let entry = entry as u64;
         self.sent.push(Sent { entry, bytes })?;
@@ -508,83 +293,156 @@ impl Listener {
         self.push(past.len().saturating_add(1), Vec::new(self.alloc))
     }
 
-    // The reply to its own request.
+    // The value that the last SET of the key wrote, where there is one.
+    fn value_of(&self, key: &[u8]) -> Option<&[u8]> {
+        for text in self.texts.iter().rev() {
+            if text.key.as_slice() == key {
+                return Some(text.value.as_slice());
+            }
+        }
+        None
+    }
+
+    // The bytes of the reply to its request after those entries.
+    fn put_reply(
+        &self,
+        own: &Own,
+        words: &Words,
+        past: &[Entry],
+        out: &mut Vec<u8>,
+    ) -> Result<(), NoMemory> {
+        if let Some(fault) = own.fault(words, past)? {
+            out.extend_from_slice(fault)?;
+            return Ok(());
+        }
+        let text: &[u8] = match request_of(words) {
+            Request::Get(key) => return put_value(self.value_of(key), own.proto, out),
+            Request::Hello(asked) => return put_greeting(asked.unwrap_or(own.proto), self.id, out),
+            Request::Subscribe(channel) => return put_subscription(
+                b"subscribe",
+                Some(channel),
+                true,
+                own.proto,
+                out,
+            ),
+            Request::Unsubscribe(asked) => return put_left(own, asked, out),
+            Request::Reset => b"+RESET\r\n",
+            Request::Ping if own.is_confined() => b"*2\r\n$4\r\npong\r\n$0\r\n\r\n",
+            Request::Ping => b"+PONG\r\n",
+            Request::Wrong(text) => text,
+            Request::Set(_, _) | Request::Quit | Request::Track(_) | Request::Mark(_) => b"+OK\r\n",
+        };
+        out.extend_from_slice(text)?;
+        Ok(())
+    }
+
     fn hear_reply(&mut self, words: &Words, past: &[Entry]) -> Result<(), NoMemory> {
         let mut bytes = Vec::new(self.alloc);
-        put_reply(self.id, words, past, &mut bytes)?;
+        if let Some(own) = self.all.get(place_of(self.id)) {
+            self.put_reply(own, words, past, &mut bytes)?;
+        }
         self.push(past.len().saturating_add(1), bytes)
     }
 
-    // The keys of which a Run tells it.
-    fn put_told(
-        &mut self,
-        by: u64,
-        words: &Words,
-        past: &[Entry],
-        told: &mut Vec<Octets>,
-    ) -> Result<(), NoMemory> {
-        let own = own_in(self.alloc, self.id, past)?;
-        if let Request::Set(key, _) = request_of(words) {
-            if by != self.id || !own.has_noloop() {
-                tell_written(self.id, &own, key, self.rows.as_slice(), told)?;
-            }
+    // Words that nothing bars change the keys, and tell of what they write all but their own
+    // connection under NOLOOP; and then of what is dropped.
+    fn tell_all(&mut self, by: u64, words: &Words, told: &mut Vec<Told>) -> Result<(), NoMemory> {
+        let Some(own) = self.all.get(place_of(by)) else {
+            return Ok(());
+        };
+        if own.is_barred(&request_of(words)) {
+            return Ok(());
         }
-        run_rows(self.alloc, past, by, words, &mut self.rows)?;
-        drop_first(self.table_max, self.id, &mut self.rows, told)
+        if let Request::Set(key, value) = request_of(words) {
+            tell_written(key, self.rows.as_slice(), self.all.as_slice(), told)?;
+            if own.has_noloop() {
+                told.retain(|one| one.to != by);
+            }
+            let key = Octets::from_slice(self.alloc, key)?;
+            let value = Octets::from_slice(self.alloc, value)?;
+            self.texts.push(Text { key, value })?;
+        }
+        run_rows(by, own, words, &mut self.rows)?;
+        drop_first(self.table_max, self.all.len() as u64, &mut self.rows, told)
     }
 
-    fn hear_key(&mut self, entry: usize, key: &Octets) -> Result<(), NoMemory> {
-        let mut bytes = Vec::new(self.alloc);
-        put_invalidation(key.as_slice(), &mut bytes)?;
-        self.push(entry, bytes)
+    // What it is sent where that one is told of a key: the message, where it is the receiver; or
+    // that the receiver has ended, where it is the one that redirects.
+    fn put_sent(&self, told: &Told, past: &[Entry], out: &mut Vec<u8>) -> Result<(), NoMemory> {
+        let Some(own) = self.all.get(place_of(told.to)) else {
+            return Ok(());
+        };
+        let key = told.key.as_slice();
+        let target = own.redirect();
+        let takes_pushes = told.to == self.id && matches!(own.proto, Proto::Three);
+        if target == 0 && takes_pushes {
+            return put_invalidation(key, out);
+        }
+        if target != 0 && takes_pushes && !is_on(target, past) {
+            return put_notice(target, out);
+        }
+        match self.all.get(place_of(self.id)) {
+            Some(receiver) if target == self.id && is_on(target, past) => put_received(
+                receiver, key, out,
+            ),
+            _ => Ok(()),
+        }
     }
 
-    // A message for each key of which a Run tells it.
-    fn hear_told(
-        &mut self,
-        by: u64,
-        words: &Words,
-        past: &[Entry],
-        is_told: bool,
-    ) -> Result<(), NoMemory> {
-        let mut told = Vec::new(self.alloc);
-        self.put_told(by, words, past, &mut told)?;
-        if is_told {
-            for key in told.iter() {
-                self.hear_key(past.len().saturating_add(1), key)?;
+    fn hear_told(&mut self, told: &[Told], past: &[Entry]) -> Result<(), NoMemory> {
+        for one in told {
+            let mut bytes = Vec::new(self.alloc);
+            self.put_sent(one, past, &mut bytes)?;
+            if !bytes.is_empty() {
+                self.push(past.len().saturating_add(1), bytes)?;
             }
         }
         Ok(())
     }
 
-    // An entry behind those before it; the protocol is the one that it leaves.
-    fn hear(&mut self, entry: &Entry, past: &[Entry], proto: Proto) -> Result<(), NoMemory> {
+    fn hear_run(&mut self, by: u64, words: &Words, past: &[Entry]) -> Result<(), NoMemory> {
+        if by == self.id {
+            self.hear_reply(words, past)?;
+        }
+        let mut told = Vec::new(self.alloc);
+        self.tell_all(by, words, &mut told)?;
+        if let Some(own) = self.all.get_mut(place_of(by)) {
+            own.hear(words, past)?;
+        }
+        self.hear_told(told.as_slice(), past)?;
+        if by == self.id && matches!(request_of(words), Request::Quit) {
+            return self.hear_end(past);
+        }
+        Ok(())
+    }
+
+    fn hear_close(&mut self, id: u64, past: &[Entry]) -> Result<(), NoMemory> {
+        let_go(id, &mut self.rows);
+        if let Some(own) = self.all.get_mut(place_of(id)) {
+            own.forget();
+        }
+        if id == self.id && !has_quit(id, past) {
+            return self.hear_end(past);
+        }
+        Ok(())
+    }
+
+    // An entry behind those before it.
+    fn hear(&mut self, entry: &Entry, past: &[Entry]) -> Result<(), NoMemory> {
         match entry {
-            Entry::Run { id, words, .. } => {
-                if *id == self.id {
-                    self.hear_reply(words, past)?;
-                }
-                self.hear_told(*id, words, past, matches!(proto, Proto::Three))?;
-                if *id == self.id && matches!(request_of(words), Request::Quit) {
-                    return self.hear_end(past);
-                }
+            Entry::Admit { .. } => {
+                self.all.push(Own::new(self.alloc))?;
                 Ok(())
             }
-            Entry::Close { id } => {
-                let_go(*id, &mut self.rows);
-                if *id == self.id && !has_quit(*id, past) {
-                    return self.hear_end(past);
-                }
-                Ok(())
-            }
+            Entry::Run { id, words, .. } => self.hear_run(*id, words, past),
+            Entry::Close { id } => self.hear_close(*id, past),
             _ => Ok(()),
         }
     }
 
     fn hear_all(&mut self, past: &[Entry]) -> Result<(), NoMemory> {
         for place in 0..past.len() {
-            let proto = proto_of(self.id, &past[..=place]);
-            self.hear(&past[place], &past[..place], proto)?;
+            self.hear(&past[place], &past[..place])?;
         }
         Ok(())
     }
@@ -597,13 +455,7 @@ pub fn all_sent(
     to: u64,
     past: &[Entry],
 ) -> Result<Vec<Sent>, NoMemory> {
-    let mut listener = Listener {
-        alloc,
-        table_max,
-        id: to,
-        rows: Vec::new(alloc),
-        sent: Vec::new(alloc),
-    };
+    let mut listener = Listener::new(alloc, table_max, to);
     listener.hear_all(past)?;
     Ok(listener.sent)
 }

@@ -171,6 +171,37 @@ raw x;show x
 client x single 3 default 9;flow;out x.data 1
 client x single 3 default 9;recv x.data 1
 client x single 3 default 9;out x.data 58
+raw r;raw s;say r CLIENT TRACKING ON REDIRECT 2;say r GET k;flow r;say s SET k 1;flow;\
+say s SUBSCRIBE __redis__:invalidate;flow s;say r GET k;say r SET k 2;flow r;flow s
+raw r;raw s;say r HELLO 3;say r CLIENT TRACKING ON REDIRECT 2;say r GET a;say r GET b;flow r;cut s;\
+serve s;raw w;say w SET a 1;flow w;flow r;say w SET b 1;flow w;say r GET a;flow r;say w SET a 2;\
+flow;flow r
+client x single 3 default 9;raw r;flow;ask x GET k;flow x.data;say r CLIENT TRACKING ON REDIRECT 1;\
+say r GET k;say r GET j;flow r;raw w;say w SET j 1;flow w;ask x GET k;flow x.data;show x;\
+say w SET k 1;flow w;flow x.data;show x;ask x GET k;flow;show x
+raw r;raw s;say s HELLO 3;flow s;say r CLIENT TRACKING ON REDIRECT 2;say r GET k;say r RESET;\
+flow r;say s SET k 1;flow s;say r GET k;say s SET k 2;flow
+raw r;raw s;say s HELLO 3;flow s;say r CLIENT TRACKING ON REDIRECT 2 NOLOOP;say r GET k;\
+say r SET k 1;say r GET k;flow r;flow s;say s SET k 2;flow s;flow s
+raw r;raw s;say s HELLO 3;say s CLIENT TRACKING ON;say s GET k;flow s;\
+say r CLIENT TRACKING ON BCAST PREFIX k REDIRECT 2;flow r;say r SET k 1;flow r;flow s
+raw r;say r CLIENT TRACKING ON REDIRECT 1;say r GET k;say r SET k 1;\
+say r SUBSCRIBE __redis__:invalidate;say r SET k 2;flow r;say r UNSUBSCRIBE;say r GET k;\
+say r HELLO 3;say r SET k 2;flow r
+raw r;raw s;say s QUIT;flow s;say r CLIENT TRACKING ON REDIRECT 2;\
+say r CLIENT TRACKING ON REDIRECT 7;say r SUBSCRIBE a;say r UNSUBSCRIBE;say r HELLO 3;\
+say r UNSUBSCRIBE a;say r SUBSCRIBE __redis__:invalidate;say r GET k;flow r
+raw r;raw s;raw t;say s HELLO 3;say r CLIENT TRACKING ON REDIRECT 2;say t HELLO 3;\
+say t CLIENT TRACKING ON REDIRECT 2;say r GET k;say t GET k;flow;say r SET k 1;flow;say s QUIT;\
+flow s;say t GET k;say r GET k;flow;say r SET k 2;flow;say t CLIENT TRACKING OFF;flow t;\
+say r SET k 3;flow
+client x single 3 bcast 9 prefix k;client y single 3 optin 9;raw r;flow;\
+say r CLIENT TRACKING ON BCAST REDIRECT 2;flow r;ask x GET k1;ask y GET k1;flow;do x SET k1 1;flow;\
+flow;show x;show y;ask y GET k1;cut y.data;flow;say r SET k1 2;flow;flow;show x;show y
+raw r;raw s;say s HELLO 3;say s SUBSCRIBE __redis__:invalidate;\
+say r CLIENT TRACKING ON OPTIN REDIRECT 2;say r CLIENT CACHING YES;say r GET k;flow;say s SET k 1;\
+say s HELLO 2;say r CLIENT CACHING YES;flow;say r GET k;flow r;say s SET k 2;flow s;say r SET k 3;\
+flow;flow;say s RESET;say s SET k 4;flow s
 ";
 
 /// With a table that has room for one key.
@@ -185,4 +216,8 @@ client x single 3 optin 9;client y single 3 optout 9 noloop;flow;ask x GET a;do 
 ask y GET c;do y GET d;flow;flow;show x;show y;ask x GET a;ask y GET a;flow;flow;show x;show y
 raw a;raw b;say a HELLO 3;say a CLIENT TRACKING ON NOLOOP;say a GET k;say a QUIT;say b HELLO 3;\
 say b CLIENT TRACKING ON;say b GET j;say b GET k;flow;flow
+raw r;raw s;say s HELLO 3;say r HELLO 3;say r CLIENT TRACKING ON REDIRECT 2;say r GET a;\
+say r GET b;flow;flow;cut s;flow;say r GET a;flow;flow
+client x single 3 default 9;raw r;flow;say r CLIENT TRACKING ON REDIRECT 1;say r GET a;flow;\
+ask x GET a;flow;show x;say r GET b;flow;flow;show x
 ";

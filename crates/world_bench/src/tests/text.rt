@@ -1,136 +1,14 @@
 //! The grammar and the printed lines against worked examples. Each table has a case a line.
-use command_words::put_printed;
 use resp_value::{NoMemory, Octets, Proto, Value, Words};
-use script_text::{Event, LONGEST_LINE, Line, Lines, put_line, read_event};
-use shared_cache::{Caching, ClientMode, Shape};
+use script_text::{Event, LONGEST_LINE, Line, Lines, put_event, put_line, read_event};
 use std::alloc::Global;
 use std::process::Abort;
 use std::test::Fail;
 
-fn put(out: &mut Vec<u8>, bytes: &[u8]) -> Result<(), NoMemory> {
-    out.extend_from_slice(bytes)?;
-    Ok(())
-}
-
-fn put_link(kind: &[u8], link: &Octets, out: &mut Vec<u8>) -> Result<(), NoMemory> {
-    put(out, kind)?;
-    put(out, b" ")?;
-    put(out, link.as_slice())
-}
-
-fn put_number(number: u64, out: &mut Vec<u8>) -> Result<(), NoMemory> {
-    put(out, b" ")?;
-    let digits = number.to_string(*out.allocator())?;
-    put(out, digits.as_bytes())
-}
-
-fn put_move(
-    kind: &[u8],
-    link: &Octets,
-    amount: &Option<u64>,
-    out: &mut Vec<u8>,
-) -> Result<(), NoMemory> {
-    put_link(kind, link, out)?;
-    match amount {
-        Some(count) => put_number(*count, out),
-        None => Ok(()),
-    }
-}
-
-fn put_words(before: &[u8], words: &Words, out: &mut Vec<u8>) -> Result<(), NoMemory> {
-    for word in words.as_slice() {
-        put(out, before)?;
-        put_printed(word.as_slice(), out)?;
-    }
-    Ok(())
-}
-
-fn put_request(
-    kind: &[u8],
-    link: &Octets,
-    words: &Words,
-    out: &mut Vec<u8>,
-) -> Result<(), NoMemory> {
-    put_link(kind, link, out)?;
-    put_words(b" ", words, out)
-}
-
-fn shape_and_proto(mode: &ClientMode) -> &'static [u8] {
-    match (mode.shape, mode.proto) {
-        (Shape::Single, Proto::Two) => b" single 2 ",
-        (Shape::Single, Proto::Three) => b" single 3 ",
-        (Shape::Pair, Proto::Two) => b" pair 2 ",
-        (Shape::Pair, Proto::Three) => b" pair 3 ",
-    }
-}
-
-fn put_client(
-    name: &Octets,
-    mode: &ClientMode,
-    keys: u64,
-    out: &mut Vec<u8>,
-) -> Result<(), NoMemory> {
-    put_link(b"client", name, out)?;
-    put(out, shape_and_proto(mode))?;
-    match &mode.caching {
-        Caching::Default => put(out, b"default")?,
-        Caching::OptIn => put(out, b"optin")?,
-        Caching::OptOut => put(out, b"optout")?,
-        Caching::Bcast(_) => put(out, b"bcast")?,
-    }
-    put_number(keys, out)?;
-    if mode.noloop {
-        put(out, b" noloop")?;
-    }
-    match &mode.caching {
-        Caching::Bcast(prefixes) => put_words(b" prefix ", prefixes, out),
-        _ => Ok(()),
-    }
-}
-
-fn put_bytes(link: &Octets, bytes: &Octets, out: &mut Vec<u8>) -> Result<(), NoMemory> {
-    put_link(b"bytes", link, out)?;
-    put(out, b" ")?;
-    put_printed(bytes.as_slice(), out)
-}
-
-fn put_now(moment: u64, out: &mut Vec<u8>) -> Result<(), NoMemory> {
-    put(out, b"now")?;
-    put_number(moment, out)
-}
-
-fn put_poll(name: &Octets, number: u64, out: &mut Vec<u8>) -> Result<(), NoMemory> {
-    put_link(b"poll", name, out)?;
-    put_number(number, out)
-}
-
-// The line that an event is read from.
-fn put_event(event: &Event, out: &mut Vec<u8>) -> Result<(), NoMemory> {
-    match event {
-        Event::Raw(link) => put_link(b"raw", link, out),
-        Event::Say(link, words) => put_request(b"say", link, words, out),
-        Event::Bytes(link, bytes) => put_bytes(link, bytes, out),
-        Event::Client(name, mode, keys) => put_client(name, mode, *keys, out),
-        Event::Out(link, amount) => put_move(b"out", link, amount, out),
-        Event::Serve(link, amount) => put_move(b"serve", link, amount, out),
-        Event::Send(link, amount) => put_move(b"send", link, amount, out),
-        Event::Recv(link, amount) => put_move(b"recv", link, amount, out),
-        Event::Flow(link) => put_link(b"flow", link, out),
-        Event::FlowAll => put(out, b"flow"),
-        Event::Cut(link) => put_link(b"cut", link, out),
-        Event::Now(moment) => put_now(*moment, out),
-        Event::Tick => put(out, b"tick"),
-        Event::Ask(name, query) => put_request(b"ask", name, query.words(), out),
-        Event::Do(name, words) => put_request(b"do", name, words, out),
-        Event::Poll(name, number) => put_poll(name, *number, out),
-        Event::Show(name) => put_link(b"show", name, out),
-    }
-}
-
 fn has_line(alloc: Global, event: &Event, line: &str) -> Result<bool, NoMemory> {
     let mut out = Vec::new(alloc);
     put_event(event, &mut out)?;
-    Ok(out.as_slice() == line.as_bytes())
+    Ok(out.as_slice().strip_suffix(b"\n") == Some(line.as_bytes()))
 }
 
 /// Whether a line is read as the event of the other line.

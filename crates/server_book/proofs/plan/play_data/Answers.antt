@@ -4,11 +4,11 @@ use Rattle.server_book.specs.Plans.{runner}
 use Rattle.server_book.proofs.Plans.{data_played}
 use Rattle.server_book.proofs.plan.play_data.Goals as goal
 
-pub returns : goal.returns
-returns c =
+pub returns-clause-played : goal.returns-clause-played
+returns-clause-played c =
     let turned = c.in_ok-expired.field-0 in
     let ran = c.in_ok-expired.ensures in
-    λ words. data_played _ (runner c.args.by.id c.args.mode.now) words c.args.command.now
+    data_played _ (runner c.args.by c.args.mode.now) c.args.command.now
     c.args.space.now c.run_due.new.self c.args.moment turned.done.signalled c.in_ok-reads.reads
     c.requires.row c.in_ok-reads.ensures ran.expired ran.turn.0 ran.turn.1
     ran.turn.2 c.deed_of-deed.ensures (ap (λ (p : Peer). p.proto) c.peer.ensures) ran.undo

@@ -29,6 +29,9 @@ invariant_of-self-2 c =
       most_is = c.push.ensures.most ∙ c.reserve.ensures.most ∙ c.self.invariant.most_is;
       room = subst (λ n. HasRoom n c.admit.new.self.items)
           (sym (c.push.ensures.closable ∙ ap (λ n. n + 1) c.reserve.ensures.closable)) room;
+      none_lost =
+          ap (λ (s : ConnectionsState). s.lost) c.in_ok-admit.ensures.ok
+          ∙ c.self.invariant.none_lost;
     }
 
 pub returns-clause-ok : goal.returns-clause-ok

@@ -48,6 +48,9 @@ invariant_of-self c =
           (is_id i.limits past i.stores.space keys rs cs k id
           (reads_there i.limits past i.stores.space keys rs cs k id on))
           (open_at i.limits past i.stores.space keys rs cs k id on) c.push.ensures.closable);
+      none_lost =
+          ap (λ (s : ConnectionsState). s.lost) (c.forget.ensures.connections ∙ c.close.ensures)
+          ∙ c.self.invariant.none_lost;
     }
 
 pub returns : goal.returns

@@ -1,21 +1,41 @@
-use Rattle.std.proofs.Common.{sym, ap, subst, ◌∙◌, Some}
+use Rattle.std.proofs.Common.{◌≡◌, sym, ap, subst, ◌∙◌, Some}
 use Rattle.serial_model.specs.declared.effect.EntryKind.TheVariants as kind
 use Rattle.serial_model.specs.declared.history.BookCall.TheVariants.{Run}
 use Rattle.serial_model.specs.declared.history.BookReply.TheVariants.{Ran}
 use Rattle.serial_model.specs.EntryEffects.{command_of}
-use Rattle.serial_model.specs.History.{served}
-use Rattle.server_book.specs.BookState.{BookState, IsTurn}
-use Rattle.server_book.proofs.BookTurns.{run_told}
+use Rattle.command_words.specs.Words.{reading}
+use Rattle.serial_model.specs.History.{served, state}
+use Rattle.server_book.specs.BookState.{BookState, IsAccepted, IsTurn}
+use Rattle.server_book.proofs.BookTurns.{mode_of, opened, run_told}
 use Rattle.server_book.proofs.book.Book.run.Goals as goal
+
+pub mode-requires : goal.mode-requires
+mode-requires c =
+    let i = c.self.inside in
+    let acc = subst (λ (b : BookState). IsAccepted b.limits b.past
+    (Run c.args.id c.args.words c.args.now)) (sym c.self.view_is) c.requires.accepted in
+    opened i.limits i.log.past i.stores.space i.stores.table i.stores.prefixes
+    i.stores.connections.items c.self.invariant.agrees c.args.id acc
 
 pub returns-clause-ok : goal.returns-clause-ok
 returns-clause-ok c =
     let done = c.in_ok-entry.field-0 in
     let command = c.command_of.result in
     let id = c.args.id in
+    let i = c.self.inside in
+    let acc = subst (λ (b : BookState). IsAccepted b.limits b.past
+    (Run id c.args.words c.args.now)) (sym c.self.view_is) c.requires.accepted in
+    let mode = c.mode.result.now in
+    let who : mode ≡ (state c.args.self.now.limits c.args.self.now.past).modes id =
+    c.mode.ensures.mode
+    ∙ mode_of i.limits i.log.past i.stores.space i.stores.table i.stores.prefixes
+    i.stores.connections.items c.self.invariant.agrees id acc
+    ∙ ap (λ (b : BookState). (state b.limits b.past).modes id) c.self.view_is in
     let told = run_told c.args.self.now c.run_read.new.self id c.args.now c.args.words done command
     c.in_ok-entry.ensures.ok
-    (c.command_of.ensures ∙ ap (λ r. command_of (served r)) c.in_ok-read.ensures) in
+    (c.command_of.ensures mode c.runs-runs.ensures
+    ∙ ap (λ r. command_of mode (served r)) c.in_ok-read.ensures
+    ∙ ap (λ x. command_of x (served (reading c.args.words))) who) in
     subst (λ (b : BookState).
     IsTurn c.args.self.now (Run id c.args.words c.args.now) (Ran done.entry) (record b {
       effect = Some (record {

@@ -36,6 +36,8 @@ invariant_of-self-2 c =
           (ap (λ (s : ConnectionsState). length s.items) c.advance.ensures
           ∙ length-set cs (c.args.id - 1) _) (take_stands i.limits past c.args.id c.args.most)
           c.self.invariant.room);
+      none_lost =
+          ap (λ (s : ConnectionsState). s.lost) c.advance.ensures ∙ c.self.invariant.none_lost;
     }
 
 pub returns-clause-ok : goal.returns-clause-ok

@@ -5,14 +5,13 @@ use Rattle.serial_model.specs.declared.history.Entry.TheVariants as entry
 use Rattle.serial_model.specs.declared.history.BookCall.TheVariants.{Tick}
 use Rattle.serial_model.specs.Deadlines.{due_keys}
 use Rattle.serial_model.specs.History.{expired}
-use Rattle.serial_model.specs.Plain.{pushes}
 use Rattle.serial_model.specs.State.{keeps_bytes}
 use Rattle.serial_model.specs.Tracking.{whole_group}
 use Rattle.serial_model.proofs.StateSteps.{tick_stands}
 use Rattle.serial_model.proofs.DueKeys.{due_apart, none_due}
 use Rattle.server_book.specs.BookState.{Agrees, BookState, HasRoom}
 use Rattle.server_book.specs.Connections.{ConnectionsState}
-use Rattle.server_book.specs.Sendings.{is_pushed, with_sendings}
+use Rattle.server_book.specs.Sendings.{lost_marked, with_told}
 use Rattle.server_book.proofs.Plans.{due_is}
 use Rattle.server_book.proofs.BookTurns.{agrees_as, is_turn, room_kept}
 use Rattle.server_book.proofs.Ticks.{agrees_tick, length_told, posted_tick, tick_quiet}
@@ -53,9 +52,18 @@ invariant_of-self-2 c =
     (c.as_slice.ensures ∙ sym c.as_slice-2.ensures ∙ none) in
     let nobody : i.stores.connections.posts ≡ [] =
     ap (λ (b : BookState). b.posts) c.self.view_is ∙ c.requires.none.posts in
+    let group = whole_group gone keys.rows rs in
     let final = c.in-Ok.ensures.sent
-    ∙ ap (λ ps. with_sendings n (pushes (is_pushed cs) (whole_group gone keys.rows rs))
-    (record { items = cs; posts = ps })) nobody in
+    ∙ ap (λ ps. lost_marked (with_told n group (record {
+      items = cs;
+      posts = ps;
+      lost = i.stores.connections.lost;
+    }))) nobody
+    ∙ ap (λ lost. lost_marked (with_told n group (record {
+      items = cs;
+      posts = [];
+      lost = lost;
+    }))) c.self.invariant.none_lost in
     let grown = c.push.ensures.past ∙ ap (λ x. e ∷ x) c.reserve.ensures.past in
     let new = c.send_tick.new.self in
     let agreed = agrees_as l (e ∷ past) new.space _ new.table _ new.prefixes _ new.connections.items
@@ -76,6 +84,7 @@ invariant_of-self-2 c =
           ∙ length_told l past space keys rs cs k m n gone due number)
           (λ id. ap keeps_bytes (tick_stands l past id m))
           c.self.invariant.room);
+      none_lost = ap (λ (s : ConnectionsState). s.lost) final;
     }
 
 pub returns-clause-ok : goal.returns-clause-ok
@@ -103,9 +112,18 @@ returns-clause-ok c =
     (c.as_slice.ensures ∙ sym c.as_slice-2.ensures ∙ none) in
     let nobody : i.stores.connections.posts ≡ [] =
     ap (λ (b : BookState). b.posts) c.self.view_is ∙ c.requires.none.posts in
+    let group = whole_group gone keys.rows rs in
     let final = c.in-Ok.ensures.sent
-    ∙ ap (λ ps. with_sendings n (pushes (is_pushed cs) (whole_group gone keys.rows rs))
-    (record { items = cs; posts = ps })) nobody in
+    ∙ ap (λ ps. lost_marked (with_told n group (record {
+      items = cs;
+      posts = ps;
+      lost = i.stores.connections.lost;
+    }))) nobody
+    ∙ ap (λ lost. lost_marked (with_told n group (record {
+      items = cs;
+      posts = [];
+      lost = lost;
+    }))) c.self.invariant.none_lost in
     let grown = c.push.ensures.past ∙ ap (λ x. e ∷ x) c.reserve.ensures.past in
     is_turn c.args.self.now l past c.push.new.self.past i.stores.connections.posts
     c.send_tick.new.self.connections.posts i.effect _ e (Tick c.args.now) _ c.self.view_is tt grown

@@ -25,6 +25,7 @@ posts-preserved c =
     let there = get_or_read items (post.id - 1) at lt read fresh in (
       posted_set items (post.id - 1) _ left last.0,
       omega (arith, c.posts.invariant.1, c.in-Some.ensures.capacity),
+      c.posts.invariant.2,
       ap (before_posts left) (unqueued_is items post at c.keep.new.self c.saturating_sub-left.result
           there
           (omega (
@@ -36,7 +37,7 @@ posts-preserved c =
           c.keep.ensures)
           ∙ sym (before_last left post items)
           ∙ ap (λ ps. before_posts ps items) (sym c.in-Some.ensures.items)
-          ∙ c.posts.invariant.2,
+          ∙ c.posts.invariant.3,
     )
 
 pub invariant_of-self : goal.invariant_of-self

@@ -1,4 +1,4 @@
-use Rattle.std.proofs.Common.{◌≡◌, ◌≤◌, length, vec_capacity}
+use Rattle.std.proofs.Common.{◌≡◌, ◌≤◌, [], length, vec_capacity}
 use Rattle.server_book.specs.Connections.{ArePosted}
 use Rattle.server_book.specs.Sendings.{before_posts}
 use Rattle.server_book.proofs.connections.Connections.take_back.Given as goal
@@ -7,6 +7,7 @@ abbrev pub invariant-posts : goal.invariant-posts
 invariant-posts l =
     ArePosted l.self-inside.items.items l.self-inside.posts.items
     × (1 ≤ vec_capacity l.self-inside.posts)
+    × (l.self-inside.lost.items ≡ [])
     × (before_posts l.self-inside.posts.items l.self-inside.items.items
     ≡ before_posts l.initial.self-inside.posts.items l.initial.self-inside.items.items)
 

@@ -1,8 +1,11 @@
 use Rattle.std.proofs.Common.{sym, ap, subst, ◌∙◌}
 use Rattle.track_table.specs.Table.{TableState, without_keys}
 use Rattle.serial_model.specs.Tracking.{whole_group}
-use Rattle.server_book.specs.Stores.{IsHeld}
+use Rattle.server_book.specs.RunSendings.{deed_done, reply_sent}
+use Rattle.server_book.specs.Sendings.{with_told}
+use Rattle.server_book.specs.Stores.{IsHeld, running}
 use Rattle.server_book.proofs.Remembered.{table_left}
+use Rattle.server_book.proofs.Routing.{unpassed_none}
 use Rattle.server_book.proofs.Sendings.{on_err}
 use Rattle.server_book.proofs.Undoing.{held_left, on_told, told_none}
 use Rattle.server_book.proofs.stores.Stores.send_groups.Goals as goal
@@ -41,3 +44,29 @@ returns-in-Err-clause-back c =
     ∙ told_none c.args.entry c.args.id s.connections c.tell_keys.new.self.connections
     (whole_group c.args.expired.now s.table.rows s.prefixes) c.requires.id c.requires.none
     c.in_ok-tell_keys.ensures.told
+
+pub returns-in-Ok-clause-sent : goal.returns-in-Ok-clause-sent
+returns-in-Ok-clause-sent c =
+    let s = c.args.self.now in
+    let run = running c.args.entry c.args.id c.args.expired.now c.args.plan.now s in
+    let keys = c.args.expired.now in
+    let group = whole_group keys s.table.rows s.prefixes in
+    let told = c.in_ok-tell_keys.ensures.told
+    ∙ ap (λ x. with_told c.args.entry x s.connections) (unpassed_none group) in
+    let left = table_left c.tell_keys.new.self.table c.set_aside.new.self keys
+    c.in_ok-aside.ensures.limit c.in_ok-aside.ensures.rows
+    ∙ ap (λ (t : TableState). record {
+      limit = t.limit;
+      rows = without_keys keys t.rows;
+    }) c.in_ok-tell_keys.ensures.table in
+    c.in-Ok.ensures.sent
+    ∙ ap (λ (t : TableState). deed_done c.args.entry c.args.id run.plan.deed t
+    c.tell_keys.new.self.prefixes
+    (reply_sent c.args.entry c.args.id run.plan c.tell_keys.new.self.connections)) left
+    ∙ ap (λ ps. deed_done c.args.entry c.args.id run.plan.deed
+    (record s.table { rows = without_keys keys s.table.rows }) ps
+    (reply_sent c.args.entry c.args.id run.plan c.tell_keys.new.self.connections))
+    c.in_ok-tell_keys.ensures.prefixes
+    ∙ ap (λ x. deed_done c.args.entry c.args.id run.plan.deed
+    (record s.table { rows = without_keys keys s.table.rows }) s.prefixes
+    (reply_sent c.args.entry c.args.id run.plan x)) told

@@ -1,7 +1,11 @@
-use Rattle.server_book.proofs.Sendings.{before_sendings, on_err, pushes_there}
+use Rattle.serial_model.specs.Tracking.{drop_group}
+use Rattle.server_book.specs.Connections.{ConnectionsState}
+use Rattle.server_book.specs.Sendings.{before_posts, unpassed}
+use Rattle.server_book.proofs.Routing.{before_told}
+use Rattle.server_book.proofs.Sendings.{on_err}
 use Rattle.server_book.proofs.Groups.{each_at, each_length, each_row}
 use Rattle.server_book.proofs.Groups.{group_told, told_more}
-use Rattle.std.proofs.Common.{sym, ap, ◌∙◌, arith, length, ◌<◌, []}
+use Rattle.std.proofs.Common.{sym, ap, ◌∙◌, arith, length, ◌<◌, [], take}
 use Rattle.std.proofs.lemmas.List.{get_or_read, take_all}
 use Rattle.track_table.specs.declared.table.Held.{Held}
 use Rattle.track_table.specs.Table.{TableState, holders_of}
@@ -9,7 +13,11 @@ use Rattle.server_book.proofs.stores.Stores.tell_holders.Goals as goal
 
 pub returns-in_err-tell-clause-back : goal.returns-in_err-tell-clause-back
 returns-in_err-tell-clause-back c =
-    grind (arith, on_err, each_row, before_sendings, pushes_there)
+    let s = c.args.self.now in
+    let rows = take c.loop-place.place (each_row c.args.keys.now s.table.rows) in
+    on_err _ _ (c.in_err-tell.ensures.err
+    ∙ ap (λ (x : ConnectionsState). before_posts x.posts x.items) c.loop-place.invariant.told
+    ∙ before_told c.args.entry (unpassed c.args.but (drop_group rows)) s.connections)
 
 pub loop-place-preserved : goal.loop-place-preserved
 loop-place-preserved c =

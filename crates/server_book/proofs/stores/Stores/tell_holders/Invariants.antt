@@ -1,7 +1,6 @@
 use Rattle.std.proofs.Common.{◌≡◌, take}
-use Rattle.serial_model.specs.Plain.{pushes}
 use Rattle.serial_model.specs.Tracking.{drop_group}
-use Rattle.server_book.specs.Sendings.{is_told, with_sendings}
+use Rattle.server_book.specs.Sendings.{unpassed, with_told}
 use Rattle.server_book.proofs.Groups.{each_row}
 use Rattle.server_book.proofs.stores.Stores.tell_holders.Given as goal
 
@@ -11,8 +10,7 @@ invariant-loop-place l = record {
   space : l.self.space ≡ l.initial.self.space;
   prefixes : l.self.prefixes ≡ l.initial.self.prefixes;
   told : l.self.connections
-      ≡ with_sendings l.entry
-      (pushes (is_told l.but l.initial.self.connections.items)
-      (drop_group (take l.place (each_row l.keys l.initial.self.table.rows))))
+      ≡ with_told l.entry
+      (unpassed l.but (drop_group (take l.place (each_row l.keys l.initial.self.table.rows))))
       l.initial.self.connections;
 }

@@ -1,16 +1,20 @@
 use Rattle.std.proofs.Common.{◌<◌, ap, sym, ◌∙◌, arith, length, slice_index_or, take}
 use Rattle.std.specs.List.{flat_map}
 use Rattle.std.proofs.lemmas.List.{take_all}
-use Rattle.serial_model.specs.Plain.{pushes}
 use Rattle.server_book.specs.Connections.{ConnectionsState}
-use Rattle.server_book.specs.Sendings.{before_posts, is_told, told_at, with_sendings}
-use Rattle.server_book.proofs.Groups.{told_behind}
+use Rattle.server_book.specs.Sendings.{before_posts, told_at, unpassed, with_told}
 use Rattle.server_book.proofs.PrefixGroups.{group_is, none_registered, places_next}
-use Rattle.server_book.proofs.Sendings.{before_sendings, on_err, pushes_there}
+use Rattle.server_book.proofs.Routing.{before_told, told_behind, told_nobody}
+use Rattle.server_book.proofs.Sendings.{on_err}
 use Rattle.server_book.proofs.stores.Stores.tell_prefixes.Goals as goal
 
 pub returns-then-is_empty-clause-told : goal.returns-then-is_empty-clause-told
-returns-then-is_empty-clause-told c = grind (arith, none_registered)
+returns-then-is_empty-clause-told c =
+    let s = c.args.self.now in
+    sym (told_nobody c.args.entry s.connections)
+    ∙ ap (λ x. with_told c.args.entry (unpassed c.args.but x) s.connections)
+    (sym (none_registered c.args.keys.now s.prefixes
+    (sym c.is_empty.ensures ∙ c.if-is_empty.true)))
 
 pub returns-in_err-tell_at-clause-back : goal.returns-in_err-tell_at-clause-back
 returns-in_err-tell_at-clause-back c =
@@ -19,8 +23,7 @@ returns-in_err-tell_at-clause-back c =
     let told = flat_map (told_at c.args.keys.now s.prefixes) places in
     on_err _ _ (c.in_err-tell_at.ensures.back
     ∙ ap (λ (x : ConnectionsState). before_posts x.posts x.items) c.loop-place.invariant.told
-    ∙ before_sendings c.args.entry (pushes (is_told c.args.but s.connections.items) told)
-    s.connections (pushes_there c.args.but s.connections.items told))
+    ∙ before_told c.args.entry (unpassed c.args.but told) s.connections)
 
 pub loop-place-preserved : goal.loop-place-preserved
 loop-place-preserved c =
@@ -38,10 +41,11 @@ loop-place-preserved c =
       told = told_behind c.args.entry c.args.but s.connections now c.tell_at.new.self.connections
           (flat_map told (take k places)) (told place) c.loop-place.invariant.told
           (c.in_ok-tell_at.ensures.told
-          ∙ ap (λ rs. with_sendings c.args.entry (pushes (is_told c.args.but now.items)
-          (told_at c.args.keys.now rs place)) now) c.loop-place.invariant.prefixes)
-          ∙ ap (λ x. with_sendings c.args.entry (pushes (is_told c.args.but s.connections.items) x)
-          s.connections) (sym (places_next told places k lt));
+          ∙ ap (λ rs. with_told c.args.entry
+          (unpassed c.args.but (told_at c.args.keys.now rs place)) now)
+          c.loop-place.invariant.prefixes)
+          ∙ ap (λ x. with_told c.args.entry (unpassed c.args.but x) s.connections)
+          (sym (places_next told places k lt));
     }
 
 pub returns-clause-told : goal.returns-clause-told

@@ -1,0 +1,131 @@
+-- A connection whose commands are neither SUBSCRIBE nor UNSUBSCRIBE is never subscribed, so its
+-- mode allows each of its commands.
+use Rattle.std.proofs.Common.{◌≡◌, ◌∙◌, ℕ, List, [], ◌∷◌, Bool, true, false, cond, refl, ap}
+use Rattle.std.proofs.Common.{Option, Some, None, Result, Ok, Err, arith}
+use Rattle.std.specs.Prelude.{◌==◌}
+use Rattle.std.proofs.lemmas.Bool.{cases_Bool, eqb-true}
+use Rattle.std.proofs.Common.{inl, inr}
+use Rattle.command_words.specs.declared.command.Command.{Command}
+use Rattle.command_words.specs.declared.command.Command.TheVariants.{Subscribe, Unsubscribe}
+use Rattle.command_words.specs.declared.command.WordFault.{WordFault}
+use Rattle.command_words.specs.Effect.{replied}
+use Rattle.command_words.specs.Space.{Space}
+use Rattle.command_words.specs.Words.{reading}
+use Rattle.track_modes.specs.declared.fault.ModeFault.{ModeFault}
+use Rattle.track_modes.specs.Commands.{after_refusal, changed, ended, fault_at}
+use Rattle.track_modes.specs.ModeState.{ModeState}
+use Rattle.serial_model.specs.declared.history.Limits.{Limits}
+use Rattle.serial_model.specs.declared.history.Entry.{Entry}
+use Rattle.serial_model.specs.declared.history.Entry.TheVariants.{Admit, Run, Tick, Take, Close}
+use Rattle.serial_model.specs.Modes.{OwnEffect, Runner, is_barred, is_confined, own_effect}
+use Rattle.serial_model.specs.Modes.{refused_effect, unless_refused}
+use Rattle.serial_model.specs.History.{effect_of, made_of, mode, ran_over, runner, served}
+use Rattle.serial_model.specs.History.{served_reading, state}
+use Rattle.serial_model.proofs.Ends.{mode_by_own_runs}
+use Rattle.serial_model.proofs.ModeSteps.{mode_other, mode_own}
+use Rattle.serial_model.proofs.ServedRows.{barred_error, none_barred}
+use Rattle.currency.proofs.Runs.{Older, older_all, older_more}
+
+-- words that read as SUBSCRIBE or UNSUBSCRIBE
+abbrev pub is_of_channel : Result Command WordFault → Bool
+is_of_channel (Ok (Subscribe channel)) = true
+is_of_channel (Ok (Unsubscribe channel)) = true
+is_of_channel read = false
+
+-- no command that the connection ran is one
+abbrev pub KeepsOff : ℕ → List Entry → Type 0
+KeepsOff c past =
+    (id m : ℕ) (words : List (List ℕ)) (up : List Entry) → Older (Run id words m ∷ up) past
+    → (id == c) ≡ true → is_of_channel (reading words) ≡ false
+
+pub off_older : (c : ℕ) (up past : List Entry) → Older up past → KeepsOff c past → KeepsOff c up
+off_older c up past o h id m words sooner before own =
+    h id m words sooner (older_more (Run id words m ∷ sooner) up past before o) own
+
+pub off_tail : (c : ℕ) (e : Entry) (past : List Entry) → KeepsOff c (e ∷ past) → KeepsOff c past
+off_tail c e past h =
+    off_older c past (e ∷ past) (record { newer = e ∷ []; is = refl }) h
+
+pub served_off : (read : Result Command WordFault) → is_of_channel read ≡ false
+    → is_of_channel (served read) ≡ false
+served_off read h = grind arith
+
+-- ---- a connection that is not subscribed may run each command
+
+unconfined : (m : ModeState) → m.subscribed ≡ false → is_confined m ≡ false
+unconfined m off = grind arith
+
+module _ (by : Runner) (words : List (List ℕ)) (off : by.mode.subscribed ≡ false) where
+  unbarred : is_barred by.mode (served_reading words) ≡ false
+  unbarred = none_barred by.mode (served_reading words) (unconfined by.mode off)
+
+  pub made_own : made_of words by ≡ own_effect (served_reading words) by
+  unfolding made_of
+  made_own =
+      ap (λ b. cond b (refused_effect by.mode) (own_effect (served_reading words) by)) unbarred
+
+  pub ran_own : (space : Space) (moment : ℕ)
+      → ran_over space by words moment ≡ effect_of by words (served_reading words) space moment
+  unfolding ran_over
+  ran_own space moment =
+      ap (λ b. cond b (replied barred_error space)
+      (effect_of by words (served_reading words) space moment)) unbarred
+
+-- ---- and stays so
+
+changed_off : (c : Command) (m : ModeState) → is_of_channel (Ok c) ≡ false
+    → m.subscribed ≡ false → (ended c (changed c m)).subscribed ≡ false
+changed_off c m none off = grind arith
+
+refused_off : (fault : ModeFault) (m : ModeState) → m.subscribed ≡ false
+    → (after_refusal fault m).subscribed ≡ false
+refused_off fault m off = grind arith
+
+unless_off : (fault : Option ModeFault) (c : Command) (m : ModeState)
+    → is_of_channel (Ok c) ≡ false → m.subscribed ≡ false
+    → (unless_refused fault c m).mode.subscribed ≡ false
+unless_off None c m none off = changed_off c m none off
+unless_off (Some fault) c m none off = refused_off fault m off
+
+own_off : (by : Runner) (read : Result Command WordFault) → is_of_channel read ≡ false
+    → by.mode.subscribed ≡ false → (own_effect read by).mode.subscribed ≡ false
+own_off by (Ok c) none off =
+    unless_off (fault_at c by.target_exists by.mode) c by.mode none off
+own_off by (Err fault) none off = off
+
+module _ (l : Limits) (c : ℕ) where
+  by_other : (e : Entry) (past : List Entry) → mode l c (e ∷ past) ≡ mode l c past
+      → (mode l c past).subscribed ≡ false → (mode l c (e ∷ past)).subscribed ≡ false
+  by_other e past same off = ap (λ (m : ModeState). m.subscribed) same ∙ off
+
+  -- it is not subscribed
+  pub off_mode : (past : List Entry) → KeepsOff c past → (mode l c past).subscribed ≡ false
+  unfolding state
+  off_mode [] h = refl
+  off_mode (Run id words m ∷ past) h = elim (cases_Bool (id == c)) [
+    | inl own ↦
+        let by = runner l past id words m in
+        let before : by.mode.subscribed ≡ false =
+        ap (λ d. (mode l d past).subscribed) (eqb-true id c own)
+        ∙ off_mode past (off_tail c (Run id words m) past h) in
+        ap (λ (x : ModeState). x.subscribed) (mode_own l c id m words past own)
+        ∙ ap (λ (o : OwnEffect). o.mode.subscribed) (made_own by words before)
+        ∙ own_off by (served_reading words)
+        (served_off (reading words)
+        (h id m words past (older_all (Run id words m ∷ past)) own)) before
+    | inr other ↦
+        by_other (Run id words m) past (mode_other l c id m words past other)
+        (off_mode past (off_tail c (Run id words m) past h))
+  ]
+  off_mode (Admit id ∷ past) h =
+      by_other (Admit id) past (mode_by_own_runs l c (Admit id) past tt)
+      (off_mode past (off_tail c (Admit id) past h))
+  off_mode (Tick m ∷ past) h =
+      by_other (Tick m) past (mode_by_own_runs l c (Tick m) past tt)
+      (off_mode past (off_tail c (Tick m) past h))
+  off_mode (Take id max ∷ past) h =
+      by_other (Take id max) past (mode_by_own_runs l c (Take id max) past tt)
+      (off_mode past (off_tail c (Take id max) past h))
+  off_mode (Close id ∷ past) h =
+      by_other (Close id) past (mode_by_own_runs l c (Close id) past tt)
+      (off_mode past (off_tail c (Close id) past h))
