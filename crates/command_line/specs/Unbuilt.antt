@@ -15,8 +15,7 @@ unbuilt =
     whole (codes "storm")
     ∷ option (codes "script") (codes "--resp") ∷ option (codes "script") (codes "--mode")
     ∷ option (codes "script") (codes "--prefix") ∷ option (codes "script") (codes "--noloop")
-    ∷ option (codes "script") (codes "--redirect")
-    ∷ option (codes "world") (codes "--out-max") ∷ option (codes "serve") (codes "--out-max") ∷ []
+    ∷ option (codes "script") (codes "--redirect") ∷ []
 
 -- the word is this option, and perhaps its value after a `=`
 abbrev pub writes_option : Word → Word → Bool

@@ -354,9 +354,6 @@ fn values_are_those_of_the_words_or_the_defaults(rt: HostRuntime) -> Result<(), 
 // Words that are in the definition, with what is not built among them.
 const UNBUILT: &str = "\
 storm --number 0 --steps 0
-world --out-max=1
-world --table-max 1 --out-max 1
-serve --port 1 --out-max 1
 script --connect h:1 --resp 3
 script --connect h:1 --resp=3
 script --mode default --connect h:1
@@ -369,7 +366,10 @@ const BUILT: &str = "\
 world
 world --history-max 5
 world --table-max 1
+world --out-max=1
+world --table-max 1 --out-max 1
 world --table-max=4000000000 --history-max=1
+serve --port 1 --out-max 1
 serve --port 1 --workers 2 --connections 3 --history-max=5
 serve --port 1 --table-max=1
 script --connect h:1
@@ -410,8 +410,6 @@ fn what_is_wrong_is_said_of_the_first_wrong_word(rt: HostRuntime) -> Result<(), 
         ("worlds", "\"worlds\" is no command"),
         ("--help", "\"--help\" is no command"),
         ("storm --number 1", "the command storm is not built yet"),
-        ("world --out-max 05", "not built yet: --out-max"),
-        ("serve --port 7000 --out-max=5", "not built yet: --out-max"),
         (
             "script --connect h:1 --mode optin",
             "not built yet: --resp, --mode, --prefix, --noloop and --redirect",
@@ -439,6 +437,11 @@ fn what_is_wrong_is_said_of_the_first_wrong_word(rt: HostRuntime) -> Result<(), 
         (
             "serve --port 1 --table-max 0",
             "\"0\" is no value of --table-max, which takes a number of 1 to 4000000000, \
+             with no sign and no leading zero",
+        ),
+        (
+            "world --out-max 05",
+            "\"05\" is no value of --out-max, which takes a number of 1 to 4000000000, \
              with no sign and no leading zero",
         ),
         (

@@ -10,18 +10,12 @@ pub fn is_unbuilt(command: &str, words: &[String]) -> bool
     match command {
         "storm" => true,
         "script" => names_script_option(words),
-        "world" | "serve" => has_option(words, "--out-max"),
         _ => false,
     }
 }
 
-/// The options of a command that are not built, as a person is told them.
-pub fn unbuilt_options(command: &str) -> &'static str {
-    match command {
-        "script" => "--resp, --mode, --prefix, --noloop and --redirect",
-        _ => "--out-max",
-    }
-}
+/// The options that are not built, all of them of `script`, as a person is told them.
+pub const UNBUILT_OPTIONS: &str = "--resp, --mode, --prefix, --noloop and --redirect";
 
 fn names_script_option(words: &[String]) -> bool
     ensures { result ≡ names_unbuilt (codes "script") (map string_bytes words.now) }

@@ -6,8 +6,9 @@ use std::fmt;
 
 /// The one-line forms of the commands.
 pub const FORMS: &str = "\
-usage: zeovalki world [--table-max N] [--history-max N] < SCHEDULE
-       zeovalki serve --port N [--workers N] [--connections N] [--table-max N] [--history-max N]
+usage: zeovalki world [--table-max N] [--out-max N] [--history-max N] < SCHEDULE
+       zeovalki serve --port N [--workers N] [--connections N]
+                      [--table-max N] [--out-max N] [--history-max N]
        zeovalki script --connect HOST:PORT [--capacity N] < SCRIPT
 An option is --name value or --name=value, each at most once.
 ";

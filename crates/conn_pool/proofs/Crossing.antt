@@ -118,7 +118,10 @@ book_inside = declared_send book_parts.the_type (
     search (sendable, log.the_send) depth 10,
     (
       search (sendable, stores_send) depth 10,
-      (search (sendable, effect_send, as_row_send) depth 20, tt),
+      (
+        search sendable depth 10,
+        (search (sendable, effect_send, as_row_send) depth 20, tt),
+      ),
     ),
   ),
 )

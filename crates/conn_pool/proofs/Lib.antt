@@ -2,3 +2,4 @@ mod Crossing
 mod Showing
 mod Tying
 mod Once
+mod Leaving

@@ -27,9 +27,9 @@ module _ (l : Limits) where
   once : (past : List Entry) → IsLegal l past → (n : ℕ)
       → (total (admits n) past ≤ 1) × (admitted past < n → total (admits n) past ≡ 0)
   once [] legal n = (omega arith, λ lt. omega arith)
-  once (Admit k ∷ past) (is, legal) n = grind (arith, eq-eqb, ne_eqb, once past legal n)
+  once (Admit k ∷ past) (on, is, legal) n = grind (arith, eq-eqb, ne_eqb, once past legal n)
   once (Run k words moment ∷ past) (on, later, legal) n = grind (arith, once past legal n)
-  once (Tick moment ∷ past) (due, later, legal) n = grind (arith, once past legal n)
+  once (Tick moment ∷ past) (on, due, later, legal) n = grind (arith, once past legal n)
   once (Take k most ∷ past) (on, some, legal) n = grind (arith, once past legal n)
   once (Close k ∷ past) (on, legal) n = grind (arith, once past legal n)
 

@@ -8,11 +8,11 @@ use Rattle.std.proofs.lemmas.List.Sorted.{All-permutation}
 use Rattle.turn_lock.specs.History.{IsPrefix}
 use Rattle.serial_model.specs.declared.history.Limits.{Limits}
 use Rattle.serial_model.specs.declared.history.Entry.{Entry}
-use Rattle.serial_model.specs.History.{has_ended}
+use Rattle.serial_model.specs.History.{has_ended, is_stopped}
 use Rattle.seat_turns.specs.Own.{past_of, Grows}
 use Rattle.shared_book.specs.Turns.{Place, Turn, limits_in, limits_of}
 use Rattle.seat_turns.proofs.Growing.{grows_past}
-use Rattle.shared_book.proofs.Histories.{begins_lift, ended_more}
+use Rattle.shared_book.proofs.Histories.{begins_lift, ended_more, stopped_more}
 use Rattle.seat_turns.proofs.Turning.{entries_begin}
 use Rattle.conn_worker.specs.declared.report.Report.{Report}
 use Rattle.conn_worker.specs.declared.report.Ended.{Ended}
@@ -29,8 +29,11 @@ module _ (l : Limits) (a b : List Entry) (t u : ℕ) (more : IsPrefix a b) (le :
   quits_begin : (id : ℕ) → has_quit id a ≡ true → has_quit id b ≡ true
   quits_begin id h = quit_begins id a b more h
 
+  stopped_begins : is_stopped l a ≡ true → is_stopped l b ≡ true
+  stopped_begins h = begins_lift (λ past. is_stopped l past ≡ true) (stopped_more l) a b more h
+
   end_more : (e : Ended) (id : ℕ) → ShowsEnd e l a t id → ShowsEnd e l b u id
-  end_more e id h = grind (arith, ended_begins, quits_begin)
+  end_more e id h = grind (arith, ended_begins, quits_begin, stopped_begins)
 
   pub shows_more : (r : Report) → Shows l a t r → Shows l b u r
   shows_more r s = grind (arith, end_more, ended_begins)

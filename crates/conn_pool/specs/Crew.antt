@@ -1,7 +1,10 @@
 -- What a worker, or several that were joined, have.
-use Rattle.std.specs.Prelude.{◌≡◌, ◌≤◌, ℕ, List, Bool}
+use Rattle.std.specs.Prelude.{◌≡◌, ◌≤◌, ◌<◌, ◌⊎◌, ℕ, List, Bool, true}
 use Rattle.atomic_table.specs.Seated.{TableId}
-use Rattle.shared_book.specs.Turns.{Place}
+use Rattle.serial_model.specs.History.{is_stopped}
+use Rattle.seat_turns.specs.Own.{past_of}
+use Rattle.shared_book.specs.Turns.{Place, limits_of, Refuses, Ticks}
+use Rattle.shared_book.specs.declared.turns.Refusal.{Refusal}
 use Rattle.conn_worker.specs.declared.report.Report.{Report}
 
 -- its seat, the links that it took, how often it left the dispatcher, its parts of the two ledgers,
@@ -27,3 +30,16 @@ Same old new =
     (new.seat.lock ≡ old.seat.lock) × (new.seat.setup ≡ old.seat.setup)
     × (new.seat.parts ≡ old.seat.parts) × (new.link_parts ≡ old.link_parts)
     × (new.gone_parts ≡ old.gone_parts)
+
+-- a SHUTDOWN ran, as a seat shows it
+abbrev pub IsStopped : Place → Type 0
+IsStopped k = is_stopped (limits_of k) (past_of k) ≡ true
+
+-- a Tick was played, or refused
+abbrev pub Looks : Place → Place → Type 0
+Looks old new =
+    ((now : ℕ) × Ticks now old new) ⊎ ((e : Refusal) × Refuses e 0 old new)
+
+-- it takes no more links: it left the dispatcher, or a SHUTDOWN ran
+abbrev pub Leaves : Team → Team → Type 0
+Leaves old new = (old.gone < new.gone) ⊎ IsStopped new.seat

@@ -18,9 +18,10 @@ leaves_by (Link k) = 0
 leaves_by Wait = 0
 leaves_by Over = 1
 
--- why so many links were given and no more: what the acceptor's counts were, and are
+-- why so many links were given and no more, unless they still are: what the acceptor's counts were,
+-- and are
 abbrev pub EndedBy : Stage → Counts → Counts → ℕ → ℕ → Type 0
-EndedBy Open old new limit given = ⊥
+EndedBy Open old new limit given = new.faults ≡ old.faults
 EndedBy Failed old new limit given = Counted old.faults new.faults
 EndedBy Closed old new limit given = Counted old.ends new.ends × (new.faults ≡ old.faults)
 EndedBy Full old new limit given = (0 < limit) × (given ≡ limit) × (new.faults ≡ old.faults)

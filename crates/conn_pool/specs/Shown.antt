@@ -4,7 +4,7 @@ use Rattle.std.specs.List.{All}
 use Rattle.turn_lock.specs.declared.rule.TheConstants.{LAST_TICKET}
 use Rattle.serial_model.specs.declared.history.Limits.{Limits}
 use Rattle.serial_model.specs.declared.history.Entry.{Entry}
-use Rattle.serial_model.specs.History.{has_ended}
+use Rattle.serial_model.specs.History.{has_ended, is_stopped}
 use Rattle.seat_turns.specs.Own.{past_of}
 use Rattle.shared_book.specs.Turns.{Place, limits_of}
 use Rattle.conn_worker.specs.declared.report.Report.{Report}
@@ -22,6 +22,7 @@ ShowsEnd (ended.BadRequest fault) l past tickets id = ⊤
 ShowsEnd ended.LinkFault l past tickets id = ⊤
 ShowsEnd ended.NoMemory l past tickets id = ⊤
 ShowsEnd ended.Worn l past tickets id = LAST_TICKET ≤ tickets
+ShowsEnd ended.Stopped l past tickets id = is_stopped l past ≡ true
 
 -- a connection may end so without having been admitted
 abbrev pub IsUnadmitted : Ended → Type 0
@@ -32,6 +33,7 @@ IsUnadmitted (ended.BadRequest fault) = ⊥
 IsUnadmitted ended.LinkFault = ⊥
 IsUnadmitted ended.NoMemory = ⊤
 IsUnadmitted ended.Worn = ⊤
+IsUnadmitted ended.Stopped = ⊤
 
 -- An admitted connection has ended in the history, unless no ticket was left; one with the id 0 was
 -- refused.

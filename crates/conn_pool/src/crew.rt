@@ -1,15 +1,16 @@
 //! The workers.
 ghost use Rattle.std.specs.Thread.{IsSync};
-ghost use Rattle.std.specs.Prelude.{◌≡◌, ◌+◌, ◌-◌, ◌<◌, ◌≤◌, [], false, length, IfSome};
+ghost use Rattle.std.specs.Prelude.{◌≡◌, ◌+◌, ◌-◌, ◌<◌, ◌≤◌, [], true, false, length, IfSome};
 ghost use Rattle.seat_turns.specs.Own.{IsWithin, turns_of};
 ghost use Rattle.conn_pool.specs.Ties.{Tied};
-ghost use Rattle.conn_pool.specs.Crew.{Ready, Same};
+ghost use Rattle.turn_lock.specs.History.{IsPrefix};
+ghost use Rattle.conn_pool.specs.Crew.{IsStopped, Leaves, Looks, Ready, Same};
 ghost use Rattle.conn_pool.specs.Shown.{AreShown};
 
 use super::dispatcher::{Dispatcher, Next, Opening};
 use conn_worker::{Gate, Report, serve_link};
 use edge_links::{Acceptor, Clock};
-use shared_book::SharedBook;
+use shared_book::{Refusal, SharedBook, tick};
 use std::alloc::Global;
 use std::marker::Model;
 use std::sync::ledger::{Ledger, Share};
@@ -52,6 +53,25 @@ impl<L: Ledger, E: Ledger> Model for Crew<L, E> {
         × (c.lost ≡ false → AreShown c.reports.items c.seat) };
 }
 
+// Whether a SHUTDOWN ran, which a Tick finds; the keys that are due leave by it.
+fn finds_stop<C: Clock, R: Wait>(
+    rt: &R,
+    lock: &TurnLock<SharedBook>,
+    seat: &mut Seat<SharedBook>,
+    clock: &C,
+) -> bool
+    requires lock { seat.old.lock ≡ lock.now }
+    requires within { IsWithin seat.old }
+    ensures looks { Looks seat.old seat.new }
+    ensures stopped { result ≡ true → IsStopped seat.new }
+{
+    match tick(rt, lock, seat, clock.now_ms()) {
+        Ok(()) => false,
+        Err(Refusal::Stopped) => true,
+        Err(_) => false,
+    }
+}
+
 impl<L: Opening, E: Ledger> Crew<L, E> {
     /// Takes links from the dispatcher, and serves each, until there are none any more.
     fn work<A: Acceptor, C: Clock, G: Gate, R: Wait>(
@@ -65,46 +85,53 @@ impl<L: Opening, E: Ledger> Crew<L, E> {
     ) -> Self
         requires { Ready lock.now 1 self }
         ensures same { Same self result }
-        ensures gone { result.gone ≡ self.gone + 1 }
+        ensures left { Leaves self result }
     {
-        let Crew {
-            mut seat,
-            mut links,
-            mut gone,
-            mut reports,
-            lost,
-        } = self;
+        let mut crew = self;
         for _ in rt.forever() {
-            if reports.reserve(1).is_err() {
-                dispatcher.lock(rt).stop(&mut gone);
-                return Crew {
-                    seat,
-                    links,
-                    gone,
-                    reports,
-                    lost: true,
-                };
-            }
-            // The dispatcher is let go before the link is served.
-            let next = dispatcher.lock(rt).next(&mut links, &mut gone);
-            match next {
-                Next::Link(mut link) => {
-                    let report = serve_link(rt, alloc, lock, &mut seat, &mut link, clock, gate);
-                    reports.push_reserved(report);
-                }
-                Next::Wait => yield_now(),
-                Next::Over => {
-                    return Crew {
-                        seat,
-                        links,
-                        gone,
-                        reports,
-                        lost,
-                    };
-                }
+            if !crew.serve_next(rt, alloc, dispatcher, lock, clock, gate) {
+                return crew;
             }
         }
         unreachable!()
+    }
+
+    // Takes a link from the dispatcher, and serves it, where one is there. Whether more may come:
+    // none does behind a SHUTDOWN.
+    #[tactic(auto, using(crate::proofs::Leaving::looking))]
+    fn serve_next<A: Acceptor, C: Clock, G: Gate, R: Wait>(
+        &mut self,
+        rt: &R,
+        alloc: Global,
+        dispatcher: &Mutex<Dispatcher<L, E, A>>,
+        lock: &TurnLock<SharedBook>,
+        clock: &C,
+        gate: &G,
+    ) -> bool
+        requires { Ready lock.now 1 self.old }
+        ensures same { Same self.old self.new }
+        ensures on { result ≡ true → self.new.gone ≡ self.old.gone }
+        ensures over { result ≡ false → Leaves self.old self.new }
+    {
+        if finds_stop(rt, lock, &mut self.seat, clock) {
+            return false;
+        }
+        if self.reports.reserve(1).is_err() {
+            self.lost = true;
+            dispatcher.lock(rt).stop(&mut self.gone);
+            return false;
+        }
+        // The dispatcher is let go before the link is served.
+        let next = dispatcher.lock(rt).next(&mut self.links, &mut self.gone);
+        match next {
+            Next::Link(mut link) => {
+                let report = serve_link(rt, alloc, lock, &mut self.seat, &mut link, clock, gate);
+                self.reports.push_reserved(report);
+            }
+            Next::Wait => yield_now(),
+            Next::Over => return false,
+        }
+        true
     }
 }
 
@@ -188,6 +215,7 @@ impl<L: Ledger, E: Ledger> Crew<L, E> {
             × (self.new.gone_parts ≡ self.old.gone_parts + other.gone_parts) }
         ensures amounts { (self.new.links ≡ self.old.links + other.links)
             × (self.new.gone ≡ self.old.gone + other.gone) }
+        ensures seen { IsPrefix self.old.seat.seen self.new.seat.seen }
     {
         let Crew {
             seat,
@@ -225,7 +253,7 @@ pub fn fan_out<
 ) -> Crew<L, E>
     requires { Ready lock.now workers crew }
     ensures same { Same crew result }
-    ensures gone { result.gone ≡ crew.gone + workers }
+    ensures left { Leaves crew result }
 {
     if workers == 1 {
         return crew.work(rt, alloc, dispatcher, lock, clock, gate);
@@ -237,11 +265,11 @@ pub fn fan_out<
         rt,
         || -> Crew<L, E>
             requires { IsSync R.row × IsSync C.row × IsSync G.row × Ready lock.now ours crew }
-            ensures { Same crew result × (result.gone ≡ crew.gone + ours) }
+            ensures { Same crew result × Leaves crew result }
         { fan_out(rt, alloc, dispatcher, lock, clock, gate, crew, ours) },
         || -> Crew<L, E>
             requires { IsSync R.row × IsSync C.row × IsSync G.row × Ready lock.now theirs other }
-            ensures { Same other result × (result.gone ≡ other.gone + theirs) }
+            ensures { Same other result × Leaves other result }
         { fan_out(rt, alloc, dispatcher, lock, clock, gate, other, theirs) },
     );
     mine.join(lock, others);

@@ -149,13 +149,14 @@ impl<L: Opening, E: Ledger, A: Acceptor> Dispatcher<L, E, A> {
         }
     }
 
-    /// What all workers took together, where each has left, and why no more was given.
+    /// What all workers took together, and why no more was given, where one has left.
     pub fn end(self, mine: &mut Share<L>, gone: &mut Share<E>) -> (A, Stage)
         requires mine { mine.old.parts ≡ L.parts }
-        requires gone { (gone.old.parts ≡ E.parts) × (0 < gone.old.amount) }
+        requires gone { gone.old.parts ≡ E.parts }
         ensures same { mine.new.amount ≡ mine.old.amount }
         ensures given { L.left ≡ after_giving mine.old.amount (still (A.left result.0)) }
         ensures stage { EndedBy result.1 L.before (A.counts result.0) L.limit mine.old.amount }
+        ensures left { 0 < gone.old.amount → result.1 ≢ Stage.Open }
         ensures within { 0 < L.limit → mine.old.amount ≤ L.limit }
     {
         let Dispatcher {

@@ -2,6 +2,7 @@
 ghost use Rattle.std.specs.Prelude.{◌≡◌, ◌<◌, ◌≤◌, ◌⊎◌, true, false, length, IfOk};
 ghost use Rattle.std.specs.List.Sorted.{IsPermutation};
 ghost use Rattle.edge_links.specs.Counts.{Counted};
+ghost use Rattle.serial_model.specs.History.{is_stopped};
 ghost use Rattle.serial_model.specs.Steps.{AreValid};
 ghost use Rattle.conn_pool.specs.Dispatcher.{after_giving, still};
 ghost use Rattle.conn_pool.specs.Outcome.{AreInOrder, Stands};
@@ -73,7 +74,8 @@ fn serve_named<
     ensures over { IfOk result (λ s.
         Counted (A.counts acceptor).faults (A.counts s.acceptor).faults
         ⊎ Counted (A.counts acceptor).ends (A.counts s.acceptor).ends
-        ⊎ (0 < connections) × (length s.reports.items ≡ connections)) }
+        ⊎ (0 < connections) × (length s.reports.items ≡ connections)
+        ⊎ (is_stopped limits s.book.state.past ≡ true)) }
     ensures within { IfOk result
         (λ s. 0 < connections → length s.reports.items ≤ connections) }
     ensures history { IfOk result (λ s. Stands limits s.reports.items s.book) }
@@ -107,7 +109,7 @@ fn serve_named<
 }
 
 /// Serves the acceptor's links by so many workers, until it is closed or failed, or gave so many
-/// links; 0 is no limit.
+/// links, or a SHUTDOWN ran; 0 is no limit.
 pub fn serve_all<
     A: Acceptor + Send + Drop,
     C: Clock + Sync,
@@ -134,7 +136,8 @@ pub fn serve_all<
     ensures over { IfOk result (λ s.
         Counted (A.counts acceptor).faults (A.counts s.acceptor).faults
         ⊎ Counted (A.counts acceptor).ends (A.counts s.acceptor).ends
-        ⊎ (0 < connections) × (length s.reports.items ≡ connections)) }
+        ⊎ (0 < connections) × (length s.reports.items ≡ connections)
+        ⊎ (is_stopped limits s.book.state.past ≡ true)) }
     ensures within { IfOk result
         (λ s. 0 < connections → length s.reports.items ≤ connections) }
     ensures history { IfOk result (λ s. Stands limits s.reports.items s.book) }

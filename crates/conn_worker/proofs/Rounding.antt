@@ -25,10 +25,10 @@ use Rattle.conn_worker.specs.declared.serve.Heard.TheVariants as came
 use Rattle.conn_worker.specs.Visits.{IsWork, IsEnd, fed_connection, runs_in, Standing}
 use Rattle.conn_worker.specs.Visits.{Begins, Delivers, DeliversPart, DeliveryCounts, stop_of}
 use Rattle.conn_worker.specs.Visits.{front_of, Hears, HearsPart, Idle, Piece, Nothing}
-use Rattle.conn_worker.specs.Visits.{Worn, Part, RunsAll, RunsPart, Idles}
+use Rattle.conn_worker.specs.Visits.{Unticked, Part, RunsAll, RunsPart, Idles}
 use Rattle.conn_worker.specs.Rounds.{most_read, RunsNew, RunsSome, TicksOrLeaves, Hearing, Waited}
 use Rattle.conn_worker.specs.Rounds.{Came, Round, Rounds, Onward, AtEnd}
-use Rattle.conn_worker.specs.Rounds.{NoTicket, Refused, Unwritten, Stopped, Serves}
+use Rattle.conn_worker.specs.Rounds.{NoTick, Refused, Unwritten, NoFurther, Serves}
 use Rattle.conn_worker.proofs.Further.{prefix_behind, read_further, stop_further, until_further}
 
 -- whole rounds, and the reader reads on behind them
@@ -172,14 +172,14 @@ module _ (clock : Option ℕ) (id : ℕ) (c : Connection) (start now : Standing)
     last = AtEnd ends refl still took kept;
     told = λ e is. absurd (no_stop (stop_in s.heard) e s.sound is);
   }
-  hears_last most cause after next le (Worn is r same took counted) kept = record {
+  hears_last most cause after next le (Unticked e ends is r same took counted) kept = record {
     before = s.heard;
     middle = now;
     rounds = s.rounds;
     sound = s.sound;
     after = s.heard;
-    last = NoTicket is counted refl r took kept;
-    told = λ e same. absurd (no_stop (stop_in s.heard) e s.sound same);
+    last = NoTick e ends is counted refl r took kept;
+    told = λ f same. absurd (no_stop (stop_in s.heard) f s.sound same);
   }
   hears_last most cause after next le (Part piece short took counts r) kept =
       let some = piece_some piece cause after next.place r in
@@ -234,7 +234,7 @@ module _ (clock : Option ℕ) (id : ℕ) (stop : Option Stop) (front : Front) (c
       rounds = h.rounds;
       sound = h.sound;
       after = h.after;
-      last = Stopped e refl (sym h.stop_is ∙ is) (half_round d counts);
+      last = NoFurther e refl (sym h.stop_is ∙ is) (half_round d counts);
       told = λ g same. inl (ap ended_at (same_Some e g (sym is ∙ (h.stop_is ∙ same))));
     }
 

@@ -24,7 +24,7 @@ use Rattle.conn_worker.specs.declared.connection.Connection.{Connection}
 use Rattle.conn_worker.specs.Visits.{IsWork, IsEnd, IsTaken, IsWhole, IsShown}
 use Rattle.conn_worker.specs.Visits.{runs_in, gave, fed_connection, RunsAll, RunsPart, Delivers}
 use Rattle.conn_worker.specs.Visits.{DeliversPart, EndCounts, Hears, HearsPart, Works, Idle, Piece}
-use Rattle.conn_worker.specs.Visits.{Nothing, Worn, Part, stop_of, front_of, Begins, HearsAll}
+use Rattle.conn_worker.specs.Visits.{Nothing, Unticked, Part, stop_of, front_of, Begins, HearsAll}
 use Rattle.conn_worker.specs.Visits.{DeliveryCounts, LinkEnds, run_in, standing, stop_of_reader}
 use Rattle.resp_value.specs.declared.octets.Octets.{Octets}
 use Rattle.conn_worker.specs.declared.connection.Behind.{Behind}
@@ -277,6 +277,7 @@ module _ (clock : Option ℕ) (id : ℕ) (c : Connection) (left0 left1 link0 lin
   ends_shown ended.LinkFault k l e = tt
   ends_shown ended.NoMemory k l e = absurd e
   ends_shown ended.Worn k l e = absurd e
+  ends_shown ended.Stopped k l e = absurd e
 
   pub hears_stops : (most : ℕ) (cause : Ended) (after : Connection) (last : Place)
       (left2 link2 : Option (List ℕ)) (k l : Counts)
@@ -290,7 +291,7 @@ module _ (clock : Option ℕ) (id : ℕ) (c : Connection) (left0 left1 link0 lin
       (sym same)
       (rest_works cause new left2 link2 (grows_none new s.grows.within) (ends_shown cause k l ends)
       (λ w. s.was_taken) took kept))
-  hears_stops most cause after last left2 link2 k l (Worn is r same took counted) kept =
+  hears_stops most cause after last left2 link2 k l (Unticked e ends is r same took counted) kept =
       grind (arith, rest_works)
   hears_stops most cause after last left2 link2 k l (Part piece short took counts r) kept =
       part_works piece cause after last left2 link2 took kept r

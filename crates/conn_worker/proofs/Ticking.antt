@@ -1,11 +1,17 @@
 -- What a connection adds where its link gave nothing: a Tick, or no turn.
-use Rattle.std.proofs.Common.{◌≡◌, ℕ, List, [], arith}
+use Rattle.std.proofs.Common.{◌≡◌, ℕ, List, [], refl, arith}
 use Rattle.std.specs.Prelude.{Option}
 use Rattle.std.specs.List.{All}
+use Rattle.std.specs.Io.KnownBytes.{Keeps}
+use Rattle.edge_links.specs.Counts.{IdleCounted}
+use Rattle.edge_links.proofs.Bytes.{consumes_kept, consumes_none}
 use Rattle.seat_turns.specs.Own.{Grows}
-use Rattle.shared_book.specs.Turns.{Place, Turn, limits_of}
+use Rattle.shared_book.specs.Turns.{Place, Turn, limits_of, Refuses}
+use Rattle.shared_book.specs.declared.turns.Refusal.{Refusal}
+use Rattle.conn_worker.specs.declared.connection.Connection.{Connection}
 use Rattle.conn_worker.specs.declared.serve.Heard.{Heard}
-use Rattle.conn_worker.specs.Visits.{IsWork, Idles, gave, runs_in}
+use Rattle.conn_worker.specs.Visits.{IsWork, Idles, gave, runs_in, EndsService, ended_by}
+use Rattle.conn_worker.specs.Visits.{HearsPart, Unticked, Standing}
 
 -- turns that are no Runs and no Takes
 pub record Passes (clock : Option ℕ) (id : ℕ) (old new : Place) : Type 0 where
@@ -18,3 +24,11 @@ pub record Passes (clock : Option ℕ) (id : ℕ) (old new : Place) : Type 0 whe
 module _ (clock : Option ℕ) (id : ℕ) (old new : Place) where
   pub idles_pass : (h : Heard) → Idles clock h old new → Passes clock id old new
   idles_pass h t = grind arith
+
+-- nothing came, and the Tick was refused
+pub unticked : (clock : Option ℕ) (most : ℕ) (e : Refusal) (c : Connection) (old new : Standing)
+    → EndsService e → Refuses e 0 old.place new.place → Keeps old.left new.left
+    → IdleCounted old.counts new.counts → HearsPart clock most (ended_by e) c c old new
+unticked clock most e c old new ends r kept counted =
+    let took = consumes_kept old.left old.left new.left [] (consumes_none old.left) kept in
+    Unticked e ends refl r refl took counted

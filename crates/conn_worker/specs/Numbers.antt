@@ -1,5 +1,4 @@
--- The number of each end. 9 is kept for a server that was shut down, which no command does that is
--- served. 6 was a full history's, and is given no more.
+-- The number of each end. 6 was a full history's, and is given no more.
 use Rattle.std.specs.Prelude.{ℕ}
 use Rattle.conn_worker.specs.declared.report.Ended.{Ended}
 use Rattle.conn_worker.specs.declared.report.Ended.TheVariants as ended
@@ -12,3 +11,4 @@ end_number (ended.BadRequest fault) = 4
 end_number ended.LinkFault = 5
 end_number ended.NoMemory = 7
 end_number ended.Worn = 8
+end_number ended.Stopped = 9

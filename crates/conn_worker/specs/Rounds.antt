@@ -7,7 +7,6 @@ use Rattle.resp_value.specs.Lists.{IsPrefix}
 use Rattle.resp_stream.specs.Parse.{requests_of}
 use Rattle.edge_links.specs.Counts.{IdleCounted}
 use Rattle.shared_book.specs.declared.turns.Refusal.{Refusal}
-use Rattle.shared_book.specs.declared.turns.Refusal.TheVariants as refusal
 use Rattle.seat_turns.specs.Own.{Grows}
 use Rattle.shared_book.specs.Turns.{Place, Turn, limits_of, Admits, Closes, Refuses}
 use Rattle.conn_worker.specs.declared.report.Report.{Report}
@@ -16,7 +15,8 @@ use Rattle.conn_worker.specs.declared.report.Ended.TheVariants as ended
 use Rattle.conn_worker.specs.declared.connection.Stop.{Stop}
 use Rattle.conn_worker.specs.Quits.{ended_at, stop_in, up_to_quit}
 use Rattle.conn_worker.specs.Visits.{IsEnd, IsWork, runs_in, gave, Standing, LinkEnds}
-use Rattle.conn_worker.specs.Visits.{TicksAt, IsLeft, Delivers, DeliversPart, DeliveryCounts}
+use Rattle.conn_worker.specs.Visits.{TicksAt, IsLeft, EndsService, ended_by, Delivers}
+use Rattle.conn_worker.specs.Visits.{DeliversPart, DeliveryCounts}
 
 -- the most bytes of one read
 abbrev pub most_read : ℕ
@@ -84,10 +84,11 @@ pub data LastRound (clock : Option ℕ) (cause : Ended) (id : ℕ) (before after
   AtEnd : LinkEnds cause old.counts new.counts → after ≡ before → new.place ≡ old.place
       → Consumes old.left new.left [] → Keeps old.contents new.contents
       → LastRound clock cause id before after old new
-  -- nothing came, and no ticket was left for the Tick
-  NoTicket : cause ≡ ended.Worn → IdleCounted old.counts new.counts → after ≡ before
-      → Refuses refusal.Worn 0 old.place new.place → Consumes old.left new.left []
-      → Keeps old.contents new.contents → LastRound clock cause id before after old new
+  -- nothing came, and the Tick was refused: no ticket was left, or a SHUTDOWN ran
+  NoTick : (e : Refusal) → EndsService e → cause ≡ ended_by e
+      → IdleCounted old.counts new.counts → after ≡ before → Refuses e 0 old.place new.place
+      → Consumes old.left new.left [] → Keeps old.contents new.contents
+      → LastRound clock cause id before after old new
   -- a piece came, and a turn for its requests was refused
   Refused : (piece : List ℕ) → after ≡ before ++ piece → length piece ≤ most_read
       → Consumes old.left new.left piece → Keeps old.contents new.contents
@@ -99,7 +100,7 @@ pub data LastRound (clock : Option ℕ) (cause : Ended) (id : ℕ) (before after
       → DeliveryCounts (Err cause) middle.counts new.counts → Keeps middle.left new.left
       → LastRound clock cause id before after old new
   -- a QUIT ran, or the bytes have a fault, which is told once all that waits was written
-  Stopped : (stop : Stop) → cause ≡ ended_at stop → stop_in after ≡ Some stop
+  NoFurther : (stop : Stop) → cause ≡ ended_at stop → stop_in after ≡ Some stop
       → Round clock id before after old new → LastRound clock cause id before after old new
 
 -- The service of an admitted connection. What was read before the last round has no QUIT and no

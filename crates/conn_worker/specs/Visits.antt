@@ -37,6 +37,7 @@ abbrev pub ended_by : Refusal → Ended
 ended_by refusal.Dropped = ended.Dropped
 ended_by refusal.NoMemory = ended.NoMemory
 ended_by refusal.Worn = ended.Worn
+ended_by refusal.Stopped = ended.Stopped
 
 -- why no turn is taken any more, as the seat shows it
 abbrev pub IsEnd : Ended → ℕ → Place → Type 0
@@ -47,6 +48,7 @@ IsEnd (ended.BadRequest fault) id k = ⊥
 IsEnd ended.LinkFault id k = ⊥
 IsEnd ended.NoMemory id k = ⊤
 IsEnd ended.Worn id k = IsCause refusal.Worn id k
+IsEnd ended.Stopped id k = IsCause refusal.Stopped id k
 
 -- ---- the turns of one connection, the newest first
 
@@ -189,6 +191,7 @@ EndCounts (ended.BadRequest fault) old new = (new.faults ≡ old.faults) × (new
 EndCounts ended.LinkFault old new = Counted old.faults new.faults × (new.ends ≡ old.ends)
 EndCounts ended.NoMemory old new = (new.faults ≡ old.faults) × (new.ends ≡ old.ends)
 EndCounts ended.Worn old new = (new.faults ≡ old.faults) × (new.ends ≡ old.ends)
+EndCounts ended.Stopped old new = (new.faults ≡ old.faults) × (new.ends ≡ old.ends)
 
 abbrev pub stop_of : Heard → Option Stop
 stop_of came.Idle = None
@@ -211,6 +214,14 @@ abbrev pub IsLeft : Refusal → Type 0
 IsLeft refusal.Dropped = ⊥
 IsLeft refusal.NoMemory = ⊤
 IsLeft refusal.Worn = ⊥
+IsLeft refusal.Stopped = ⊥
+
+-- and one that is refused so ends the service
+abbrev pub EndsService : Refusal → Type 0
+EndsService refusal.Dropped = ⊥
+EndsService refusal.NoMemory = ⊥
+EndsService refusal.Worn = ⊤
+EndsService refusal.Stopped = ⊤
 
 -- what is due leaves where a read brings nothing, unless that is refused
 abbrev pub Idles : Option ℕ → Heard → Place → Place → Type 0
@@ -249,14 +260,17 @@ LinkEnds (ended.BadRequest fault) old new = ⊥
 LinkEnds ended.LinkFault old new = FaultCounted old new
 LinkEnds ended.NoMemory old new = ⊥
 LinkEnds ended.Worn old new = ⊥
+LinkEnds ended.Stopped old new = ⊥
 
--- The link gave no bytes; or a piece was read, and some of the requests in it ran.
+-- The link gave no bytes, and perhaps the Tick was refused; or a piece was read, and some of the
+-- requests in it ran.
 pub data HearsPart (clock : Option ℕ) (most : ℕ) (cause : Ended) (before after : Connection)
     (old new : Standing) : Type 0 where
   Nothing : LinkEnds cause old.counts new.counts → after ≡ before → new.place ≡ old.place
       → Consumes old.left new.left [] → HearsPart clock most cause before after old new
-  Worn : cause ≡ ended.Worn → Refuses refusal.Worn 0 old.place new.place → after ≡ before
-      → Consumes old.left new.left [] → IdleCounted old.counts new.counts
+  Unticked : (e : Refusal) → EndsService e → cause ≡ ended_by e
+      → Refuses e 0 old.place new.place → after ≡ before → Consumes old.left new.left []
+      → IdleCounted old.counts new.counts
       → HearsPart clock most cause before after old new
   Part : (piece : List ℕ) → length piece ≤ most → Consumes old.left new.left piece
       → new.counts ≡ old.counts
@@ -278,6 +292,7 @@ IsWhole (ended.BadRequest fault) = ⊤
 IsWhole ended.LinkFault = ⊥
 IsWhole ended.NoMemory = ⊥
 IsWhole ended.Worn = ⊥
+IsWhole ended.Stopped = ⊥
 
 -- why the connection is served no longer, as the seat or what was read shows it
 abbrev pub IsShown : Ended → ℕ → List ℕ → Place → Type 0
@@ -289,6 +304,7 @@ IsShown (ended.BadRequest fault) id heard k = stop_in heard ≡ Some (stop.Fault
 IsShown ended.LinkFault id heard k = ⊤
 IsShown ended.NoMemory id heard k = ⊤
 IsShown ended.Worn id heard k = IsEnd ended.Worn id k
+IsShown ended.Stopped id heard k = IsEnd ended.Stopped id k
 
 -- What the service of an admitted connection did, up to its end. The Runs are the first requests in
 -- what was read, in order, and none behind a QUIT; what was written are the first bytes that its

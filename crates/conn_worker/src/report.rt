@@ -22,6 +22,8 @@ pub enum Ended {
     NoMemory,
     /// No ticket of the lock was left.
     Worn,
+    /// A SHUTDOWN ran.
+    Stopped,
 }
 
 impl Ended {
@@ -37,6 +39,7 @@ impl Ended {
             Ended::LinkFault => 5,
             Ended::NoMemory => 7,
             Ended::Worn => 8,
+            Ended::Stopped => 9,
         }
     }
 }
@@ -58,5 +61,6 @@ pub fn ended_by(refusal: Refusal) -> Ended
         Refusal::Dropped => Ended::Dropped,
         Refusal::NoMemory => Ended::NoMemory,
         Refusal::Worn => Ended::Worn,
+        Refusal::Stopped => Ended::Stopped,
     }
 }

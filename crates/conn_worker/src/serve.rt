@@ -92,6 +92,7 @@ fn hear_once<R: Wait, L: Link, C: Clock, G: Gate>(
             Ok(()) => Ok(Heard::Idle),
             Err(Refusal::NoMemory) => Ok(Heard::Left(Refusal::NoMemory)),
             Err(Refusal::Worn) => Err(Ended::Worn),
+            Err(Refusal::Stopped) => Err(Ended::Stopped),
             Err(Refusal::Dropped) => unreachable!(),
         },
         LinkRead::End => Err(Ended::PeerEnd),
@@ -158,7 +159,8 @@ fn serve_admitted<R: Wait, L: Link, C: Clock, G: Gate>(
 
 /// Admits a connection, serves it over its link until it ends, and closes it. Each whole request
 /// that is read is one Run, and none behind a QUIT is; what waits for the connection is written
-/// before the next read. A read that brings nothing is one Tick, where a key is due.
+/// before the next read. A read that brings nothing is one Tick, where a key is due; behind a
+/// SHUTDOWN that is refused, and the service ends.
 pub fn serve_link<R: Wait, L: Link, C: Clock, G: Gate>(
     rt: &R,
     alloc: Global,

@@ -16,14 +16,15 @@ use Rattle.serial_model.specs.Tracking.{Invalidation, push_of, names_key, tells}
 use Rattle.serial_model.specs.State.{State, is_on}
 use Rattle.serial_model.specs.Actions.{Sending, Message, End, routed}
 use Rattle.serial_model.specs.Laws.{IsDirect}
-use Rattle.serial_model.specs.History.{IsLegal, expiry_group, mode, runs_on, sent_to, sent, state}
+use Rattle.serial_model.specs.History.{IsLegal, expiry_group, mode, reply_of, runs_on, sent_to}
+use Rattle.serial_model.specs.History.{sent, state}
 use Rattle.serial_model.proofs.Tables.{sent_to-append}
 use Rattle.currency.proofs.Lists.{get_parts, get_front, get_behind, one_passes}
 use Rattle.currency.proofs.Routes.{own_way}
 use Rattle.currency.proofs.Runs.{Older}
 use Rattle.currency.proofs.Sent.{Told, is_sent_to, routed_at, sent_le, sent_older}
 use Rattle.currency.proofs.Replies as replies
-use Rattle.currency.proofs.Replies.{is_reply_at, reply_to, routed_no_reply, run_sends_are}
+use Rattle.currency.proofs.Replies.{is_reply_at, routed_no_reply, run_sends_are}
 
 -- none of those passes the test
 none_kept : {A : Type 0} (p : A → Bool) (xs : List A) → filter p xs ≡ [] → (i : ℕ) (y : A)
@@ -49,10 +50,11 @@ module _ (c : ℕ) (l : Limits) (past up : List Entry) (id : ℕ) (words : List 
   abbrev before : List (ℕ × Sending)
   before = routed now.modes (is_on now) told
 
+  abbrev answer : List (ℕ × Sending)
+  answer = reply_of l up id words m
+
   abbrev behind : List (ℕ × Sending)
-  behind =
-      (id, reply_to l up id words m)
-      ∷ (replies.late l up id words m ++ replies.ending l up id words m)
+  behind = answer ++ (replies.late l up id words m ++ replies.ending l up id words m)
 
   abbrev early : List (ℕ × Sending)
   early = sent_to n c before
@@ -64,9 +66,9 @@ module _ (c : ℕ) (l : Limits) (past up : List Entry) (id : ℕ) (words : List 
   sent_is =
       ap (λ ss. sent l c up ++ sent_to n c ss)
       (run_sends_are l up id words m legal on
-      ∙ append_assoc (before ++ (id, reply_to l up id words m) ∷ []) (replies.late l up id words m)
+      ∙ append_assoc (before ++ answer) (replies.late l up id words m)
       (replies.ending l up id words m)
-      ∙ append_assoc before ((id, reply_to l up id words m) ∷ [])
+      ∙ append_assoc before answer
       (replies.late l up id words m ++ replies.ending l up id words m))
       ∙ ap (λ ss. sent l c up ++ ss) (sent_to-append n c before behind)
 

@@ -292,7 +292,8 @@ module _ (l : Limits) (x : Client) (past : List Entry) (home : Wire) (watched : 
         let fits : (made l p.up p.id p.words p.moment).mode.proto ≡ x.setup.mode.proto =
         ap (λ (m : ModeState). m.proto) (sym (mode_own l c p.id p.moment p.words p.up p.own))
         ∙ ap (λ u. (mode l c u).proto) (sym all) ∙ protocols (up_to at past) good in
-        let reads = sym (reply_some l p.up p.id p.words p.moment)
+        let reads = sym (reply_some l p.up p.id p.words p.moment
+        (keeps p.id p.moment p.words p.up p.older p.own))
         ∙ read_replies l p.id p.moment p.words p.up
         (ap (λ ws. reads_as_cacheable (served_reading ws)) words ∙ serves)
         (ap (λ d. is_confined (mode l d p.up)) (eqb-true p.id c p.own)

@@ -1,8 +1,9 @@
 -- What was got of what was sent.
 use Rattle.std.proofs.Common.{◌≡◌, ◌+◌, ℕ, List, [], ◌∷◌, ◌++◌, length, Bool, true}
-use Rattle.std.proofs.Common.{false, cond, refl, ap, sym, subst, ◌∙◌, arith, None, Some}
+use Rattle.std.proofs.Common.{false, cond, refl, ap, sym, subst, ◌∙◌, arith, None, Some, inl}
+use Rattle.std.proofs.Common.{inr, map}
 use Rattle.std.specs.Prelude.{◌==◌, Option, not}
-use Rattle.std.proofs.lemmas.Bool.{both_ways, eqb-true}
+use Rattle.std.proofs.lemmas.Bool.{both_ways, cases_Bool, eqb-true}
 use Rattle.resp_value.specs.Tree.{Tree}
 use Rattle.resp_value.specs.Tree as tree
 use Rattle.resp_value.specs.ValueTree.{tree_of}
@@ -20,16 +21,17 @@ use Rattle.serial_model.specs.declared.history.Entry.TheVariants.{Admit, Run, Ti
 use Rattle.serial_model.specs.Tracking.{Invalidation}
 use Rattle.serial_model.specs.State.{is_live, is_on}
 use Rattle.serial_model.specs.Actions as actions
-use Rattle.serial_model.specs.Actions.{Sending, Message, End, expiry_told, later_told, modes_then}
-use Rattle.serial_model.specs.Actions.{route_at, routed, way}
-use Rattle.serial_model.specs.History.{IsLegal, is_quit, made, mode, ran, run_action, sends}
+use Rattle.serial_model.specs.Actions.{Sending, Message, End, ends, expiry_told, later_told}
+use Rattle.serial_model.specs.Actions.{modes_then, replies, route_at, routed, way}
+use Rattle.serial_model.specs.History.{IsLegal, effect_in, made, mode, ran, run_action, sends}
 use Rattle.serial_model.specs.History.{sent_to, sent, state, tick_action}
 use Rattle.serial_model.proofs.ActionSends.{tick_sends}
 use Rattle.serial_model.proofs.Tables.{sent_to-append}
 use Rattle.shared_cache.specs.Notices.{push, kind_of, is_reply}
 use Rattle.currency.specs.Links.{IsGot, is_push, is_reply_sent}
 use Rattle.currency.proofs.OffChannel.{KeepsOff, off_mode, off_tail}
-use Rattle.currency.proofs.Replies.{early, ending, late, reply_no_push, reply_to, run_sends_are}
+use Rattle.currency.proofs.Replies.{early, ending, late, other_reply, reply_is, reply_no_push}
+use Rattle.currency.proofs.Replies.{reply_to, run_sends_are}
 use Rattle.currency.proofs.Runs.{older_all}
 
 -- ---- a push is got as a push, and a reply as a reply
@@ -125,33 +127,49 @@ unfolding AllSent IsSent
 end_form true id = (tt, tt)
 end_form false id = tt
 
+ends_form : (ids : List ℕ) → AllSent (map (λ c. (c, End)) ids)
+unfolding AllSent IsSent
+ends_form [] = tt
+ends_form (id ∷ ids) = (tt, ends_form ids)
+
 none_form : AllSent []
 unfolding AllSent
 none_form = tt
 
-own_form : (b : Bool) (n : ℕ) (s : Sending) → (b ≡ true → IsSent s)
-    → AllSent (cond b ((n, s) ∷ []) [])
+own_form : (b : Bool) (n : ℕ) (s : Sending) → IsSent s → AllSent (cond b ((n, s) ∷ []) [])
 unfolding AllSent
-own_form true n s h = (h refl, tt)
+own_form true n s h = (h, tt)
 own_form false n s h = tt
 
 no_push_form : (p : Proto) (v : Value) → is_push v ≡ false → IsSent (Message p v)
 unfolding IsSent
 no_push_form p v none h = absurd (both_ways (is_push v) none h)
 
--- ---- to a connection that keeps off the channel of invalidations
+-- ---- to a connection that keeps off what has no reply
 
 module _ (l : Limits) (c : ℕ) where
-  reply_form : (id m : ℕ) (words : List (List ℕ)) (past : List Entry)
+  own_reply : (n id m : ℕ) (words : List (List ℕ)) (past : List Entry)
       → KeepsOff c (Run id words m ∷ past) → (id == c) ≡ true
-      → IsSent (reply_to l past id words m)
-  reply_form id m words past keeps own =
+      → AllSent (sent_to n c (replies (run_action id words m (state l past))))
+  own_reply n id m words past keeps own =
       let off : (mode l id past).subscribed ≡ false =
       ap (λ d. (mode l d past).subscribed) (eqb-true id c own)
       ∙ off_mode l c past (off_tail c (Run id words m) past keeps) in
-      no_push_form (made l past id words m).mode.proto (ran l past id words m).reply
-      (reply_no_push l past id words m off
-      (keeps id m words past (older_all (Run id words m ∷ past)) own))
+      let none = keeps id m words past (older_all (Run id words m ∷ past)) own in
+      subst (λ ss. AllSent (sent_to n c ss)) (sym (reply_is l past id words m none))
+      (own_form (id == c) n (reply_to l past id words m)
+      (no_push_form (made l past id words m).mode.proto (ran l past id words m).reply
+      (reply_no_push l past id words m off none)))
+
+  reply_form : (n id m : ℕ) (words : List (List ℕ)) (past : List Entry)
+      → KeepsOff c (Run id words m ∷ past)
+      → AllSent (sent_to n c (replies (run_action id words m (state l past))))
+  reply_form n id m words past keeps = elim (cases_Bool (id == c)) [
+    | inl own ↦ own_reply n id m words past keeps own
+    | inr other ↦
+        let e = effect_in (state l past) id words m in
+        subst AllSent (sym (other_reply n c id e.mode.proto e.reply other)) none_form
+  ]
 
   to_parts : (n : ℕ) (xs ys zs us : List (ℕ × Sending))
       → AllSent (sent_to n c xs) → AllSent (sent_to n c ys) → AllSent (sent_to n c zs)
@@ -172,22 +190,23 @@ module _ (l : Limits) (c : ℕ) where
       let t = tick_action m s in
       let before = routed s.modes (is_on s) (expiry_told t s) in
       let behind = routed (modes_then t s) (is_on s) (later_told l t s) in
-      subst (λ ss. AllSent (sent_to n c ss)) (sym (tick_sends l past m h.2))
-      (to_parts n before [] behind []
+      let ending = map (λ c. (c, End)) (ends l t s) in
+      subst (λ ss. AllSent (sent_to n c ss)) (sym (tick_sends l past m h.3))
+      (to_parts n before [] behind ending
       (to_form n c before (routed_form s.modes (is_on s) (expiry_told t s))) none_form
-      (to_form n c behind (routed_form (modes_then t s) (is_on s) (later_told l t s))) none_form)
+      (to_form n c behind (routed_form (modes_then t s) (is_on s) (later_told l t s)))
+      (to_form n c ending (ends_form (ends l t s))))
   sends_form n (Run id words m) past h keeps =
       let s = state l past in
       let t = run_action id words m s in
-      let reply = reply_to l past id words m in
       subst (λ ss. AllSent (sent_to n c ss)) (sym (run_sends_are l past id words m h.2 h.0))
-      (to_parts n (early l past id words m) ((id, reply) ∷ []) (late l past id words m)
+      (to_parts n (early l past id words m) (replies t) (late l past id words m)
       (ending l past id words m)
       (to_form n c (early l past id words m) (routed_form s.modes (is_on s) (expiry_told t s)))
-      (own_form (id == c) n reply (reply_form id m words past keeps))
+      (reply_form n id m words past keeps)
       (to_form n c (late l past id words m)
       (routed_form (modes_then t s) (is_on s) (later_told l t s)))
-      (to_form n c (ending l past id words m) (end_form (is_quit words) id)))
+      (to_form n c (ending l past id words m) (ends_form (ends l t s))))
   sends_form n (Close id) past h keeps =
       let live = is_live ((state l past).standing id) in
       to_form n c (cond live ((id, End) ∷ []) []) (end_form live id)
@@ -196,9 +215,9 @@ module _ (l : Limits) (c : ℕ) where
 
 before_entry : (l : Limits) (e : Entry) (past : List Entry) → IsLegal l (e ∷ past)
     → IsLegal l past
-before_entry l (Admit id) past h = h.1
+before_entry l (Admit id) past h = h.2
 before_entry l (Run id words m) past h = h.2
-before_entry l (Tick m) past h = h.2
+before_entry l (Tick m) past h = h.3
 before_entry l (Take id max) past h = h.2
 before_entry l (Close id) past h = h.1
 

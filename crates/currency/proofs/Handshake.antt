@@ -59,7 +59,7 @@ use Rattle.shared_cache.proofs.Led.{every_led}
 use Rattle.currency.proofs.TrackingCommand.{asked_tracking, bcast_reads, track_made, track_words}
 use Rattle.currency.proofs.TrackingCommand.{with_tracking}
 use Rattle.currency.proofs.Lists.{get_front, get_last, prefix_more}
-use Rattle.currency.proofs.OffChannel.{KeepsOff, is_of_channel, made_own, off_mode}
+use Rattle.currency.proofs.OffChannel.{KeepsOff, has_no_reply, made_own, off_mode}
 use Rattle.currency.proofs.Runs.{runs_older}
 
 -- ---- the settings of a connection
@@ -203,14 +203,14 @@ behind_at (c ∷ cs) zero words a b e =
     let same : c.words ≡ words = cc in subst IsBehind same (behind_one c a.0 b.0)
 behind_at (c ∷ cs) (suc k) words a b e = behind_at cs k words a.1 b.1 e
 
--- ---- no command of a client is of the channel of invalidations
+-- ---- each command of a client has its reply
 
-hello_off : is_of_channel (reading (codes "HELLO" ∷ codes "3" ∷ [])) ≡ false
+hello_off : has_no_reply (reading (codes "HELLO" ∷ codes "3" ∷ [])) ≡ false
 unfolding reading string_reading hash_reading key_reading connection_reading
 hello_off = refl
 
 tracking_off : (c : Caching) (noloop : Bool)
-    → is_of_channel (reading (track_words c noloop)) ≡ false
+    → has_no_reply (reading (track_words c noloop)) ≡ false
 unfolding reading string_reading hash_reading key_reading connection_reading client_reading tracking
 tracking_off Default true = refl
 tracking_off Default false = refl
@@ -218,21 +218,21 @@ tracking_off OptIn true = refl
 tracking_off OptIn false = refl
 tracking_off OptOut true = refl
 tracking_off OptOut false = refl
-tracking_off (Bcast prefixes) noloop = ap is_of_channel (bcast_reads prefixes noloop)
+tracking_off (Bcast prefixes) noloop = ap has_no_reply (bcast_reads prefixes noloop)
 
-caching_off : (w : CachingWord) → is_of_channel (reading (caching_command w).words) ≡ false
+caching_off : (w : CachingWord) → has_no_reply (reading (caching_command w).words) ≡ false
 unfolding reading string_reading hash_reading key_reading connection_reading client_reading
 caching_off Yes = refl
 caching_off No = refl
 
 no_control_off : (read : Result Command WordFault) → reads_as_control read ≡ false
-    → is_of_channel read ≡ false
+    → has_no_reply read ≡ false
 no_control_off read h = grind arith
 
-behind_off : (words : List (List ℕ)) → IsBehind words → is_of_channel (reading words) ≡ false
+behind_off : (words : List (List ℕ)) → IsBehind words → has_no_reply (reading words) ≡ false
 unfolding is_control
 behind_off words (inl plain) = no_control_off (reading words) plain
-behind_off words (inr c) = ap (λ ws. is_of_channel (reading ws)) c.1 ∙ caching_off c.0
+behind_off words (inr c) = ap (λ ws. has_no_reply (reading ws)) c.1 ∙ caching_off c.0
 
 -- ---- the commands of a client on one link
 
@@ -256,29 +256,29 @@ module _ (s : Setup) (link : IsOneLink s.mode) where
       behind_at (sent s log) k words (sent_own s log) (no_control s log h)
       (sym (ap (λ l. slice_get l (suc (suc k))) (plain_commands log)) ∙ e)
 
-  -- none of these commands is of the channel of invalidations
-  off_channel : (log : List LogEntry) → LegalLog s log → (n : ℕ) (words : List (List ℕ))
-      → slice_get (commands s Main log) n ≡ Some words → is_of_channel (reading words) ≡ false
-  off_channel log h zero words e =
+  -- each of these commands has its reply
+  each_off : (log : List LogEntry) → LegalLog s log → (n : ℕ) (words : List (List ℕ))
+      → slice_get (commands s Main log) n ≡ Some words → has_no_reply (reading words) ≡ false
+  each_off log h zero words e =
       let first : Some (codes "HELLO" ∷ codes "3" ∷ []) ≡ Some words
       = sym (ap (λ l. slice_get l 0) (plain_commands log)) ∙ e in
-      ap (λ ws. is_of_channel (reading ws))
+      ap (λ ws. has_no_reply (reading ws))
       (sym (same_Some (codes "HELLO" ∷ codes "3" ∷ []) words first)) ∙ hello_off
-  off_channel log h (suc zero) words e =
+  each_off log h (suc zero) words e =
       let second : Some (asks_tracking s.mode []) ≡ Some words
       = sym (ap (λ l. slice_get l 1) (plain_commands log)) ∙ e in
-      ap (λ ws. is_of_channel (reading ws)) (sym (same_Some (asks_tracking s.mode []) words second))
+      ap (λ ws. has_no_reply (reading ws)) (sym (same_Some (asks_tracking s.mode []) words second))
       ∙ tracking_off s.mode.caching s.mode.noloop
-  off_channel log h (suc (suc k)) words e = behind_off words (is_behind log h k words e)
+  each_off log h (suc (suc k)) words e = behind_off words (is_behind log h k words e)
 
-  -- a connection that runs them keeps off it
+  -- a connection that runs them keeps off the others
   pub keeps_off : (log : List LogEntry) → LegalLog s log → (c : ℕ) (past : List Entry)
       → IsPrefix (runs_of c past) (commands s Main log) → KeepsOff c past
   keeps_off log h c past p id m words up o own =
       let n = length (runs_of c up) in
       let ran = prefix_more (runs_of c (Run id words m ∷ up)) (runs_of c past)
       (commands s Main log) (runs_older c (Run id words m ∷ up) past o) p in
-      off_channel log h n words
+      each_off log h n words
       (ap (λ cs. slice_get cs n) (sym ran.1)
       ∙ get_front (runs_of c (Run id words m ∷ up)) ran.0 n words
       (ap (λ b. slice_get (cond b (runs_of c up ++ words ∷ []) (runs_of c up)) n) own

@@ -1,12 +1,13 @@
--- A connection whose commands are neither SUBSCRIBE nor UNSUBSCRIBE is never subscribed, so its
--- mode allows each of its commands.
+-- A connection whose commands are none of SUBSCRIBE, UNSUBSCRIBE and SHUTDOWN is never subscribed,
+-- so its mode allows each of its commands, and each has its reply.
 use Rattle.std.proofs.Common.{◌≡◌, ◌∙◌, ℕ, List, [], ◌∷◌, Bool, true, false, cond, refl, ap}
 use Rattle.std.proofs.Common.{Option, Some, None, Result, Ok, Err, arith}
 use Rattle.std.specs.Prelude.{◌==◌}
 use Rattle.std.proofs.lemmas.Bool.{cases_Bool, eqb-true}
 use Rattle.std.proofs.Common.{inl, inr}
 use Rattle.command_words.specs.declared.command.Command.{Command}
-use Rattle.command_words.specs.declared.command.Command.TheVariants.{Subscribe, Unsubscribe}
+use Rattle.command_words.specs.declared.command.Command.TheVariants.{Shutdown, Subscribe}
+use Rattle.command_words.specs.declared.command.Command.TheVariants.{Unsubscribe}
 use Rattle.command_words.specs.declared.command.WordFault.{WordFault}
 use Rattle.command_words.specs.Effect.{replied}
 use Rattle.command_words.specs.Space.{Space}
@@ -18,25 +19,26 @@ use Rattle.serial_model.specs.declared.history.Limits.{Limits}
 use Rattle.serial_model.specs.declared.history.Entry.{Entry}
 use Rattle.serial_model.specs.declared.history.Entry.TheVariants.{Admit, Run, Tick, Take, Close}
 use Rattle.serial_model.specs.Modes.{OwnEffect, Runner, is_barred, is_confined, own_effect}
-use Rattle.serial_model.specs.Modes.{refused_effect, unless_refused}
-use Rattle.serial_model.specs.History.{effect_of, made_of, mode, ran_over, runner, served}
-use Rattle.serial_model.specs.History.{served_reading, state}
+use Rattle.serial_model.specs.Modes.{is_stopping, refused_effect, unless_refused}
+use Rattle.serial_model.specs.History.{effect_of, ending_in, made_of, mode, ran_over, runner}
+use Rattle.serial_model.specs.History.{served, served_reading, state}
 use Rattle.serial_model.proofs.Ends.{mode_by_own_runs}
 use Rattle.serial_model.proofs.ModeSteps.{mode_other, mode_own}
 use Rattle.serial_model.proofs.ServedRows.{barred_error, none_barred}
 use Rattle.currency.proofs.Runs.{Older, older_all, older_more}
 
--- words that read as SUBSCRIBE or UNSUBSCRIBE
-abbrev pub is_of_channel : Result Command WordFault → Bool
-is_of_channel (Ok (Subscribe channel)) = true
-is_of_channel (Ok (Unsubscribe channel)) = true
-is_of_channel read = false
+-- words that no reply answers: pushes answer those of the channel, and nothing SHUTDOWN
+abbrev pub has_no_reply : Result Command WordFault → Bool
+has_no_reply (Ok (Subscribe channel)) = true
+has_no_reply (Ok (Unsubscribe channel)) = true
+has_no_reply (Ok (Shutdown mode)) = true
+has_no_reply read = false
 
 -- no command that the connection ran is one
 abbrev pub KeepsOff : ℕ → List Entry → Type 0
 KeepsOff c past =
     (id m : ℕ) (words : List (List ℕ)) (up : List Entry) → Older (Run id words m ∷ up) past
-    → (id == c) ≡ true → is_of_channel (reading words) ≡ false
+    → (id == c) ≡ true → has_no_reply (reading words) ≡ false
 
 pub off_older : (c : ℕ) (up past : List Entry) → Older up past → KeepsOff c past → KeepsOff c up
 off_older c up past o h id m words sooner before own =
@@ -46,9 +48,14 @@ pub off_tail : (c : ℕ) (e : Entry) (past : List Entry) → KeepsOff c (e ∷ p
 off_tail c e past h =
     off_older c past (e ∷ past) (record { newer = e ∷ []; is = refl }) h
 
-pub served_off : (read : Result Command WordFault) → is_of_channel read ≡ false
-    → is_of_channel (served read) ≡ false
+pub served_off : (read : Result Command WordFault) → has_no_reply read ≡ false
+    → has_no_reply (served read) ≡ false
 served_off read h = grind arith
+
+-- no such command stops the server
+pub none_stops : (m : ModeState) (read : Result Command WordFault) → has_no_reply read ≡ false
+    → is_stopping (ending_in m read) ≡ false
+none_stops m read off = grind arith
 
 -- ---- a connection that is not subscribed may run each command
 
@@ -73,7 +80,7 @@ module _ (by : Runner) (words : List (List ℕ)) (off : by.mode.subscribed ≡ f
 
 -- ---- and stays so
 
-changed_off : (c : Command) (m : ModeState) → is_of_channel (Ok c) ≡ false
+changed_off : (c : Command) (m : ModeState) → has_no_reply (Ok c) ≡ false
     → m.subscribed ≡ false → (ended c (changed c m)).subscribed ≡ false
 changed_off c m none off = grind arith
 
@@ -82,12 +89,12 @@ refused_off : (fault : ModeFault) (m : ModeState) → m.subscribed ≡ false
 refused_off fault m off = grind arith
 
 unless_off : (fault : Option ModeFault) (c : Command) (m : ModeState)
-    → is_of_channel (Ok c) ≡ false → m.subscribed ≡ false
+    → has_no_reply (Ok c) ≡ false → m.subscribed ≡ false
     → (unless_refused fault c m).mode.subscribed ≡ false
 unless_off None c m none off = changed_off c m none off
 unless_off (Some fault) c m none off = refused_off fault m off
 
-own_off : (by : Runner) (read : Result Command WordFault) → is_of_channel read ≡ false
+own_off : (by : Runner) (read : Result Command WordFault) → has_no_reply read ≡ false
     → by.mode.subscribed ≡ false → (own_effect read by).mode.subscribed ≡ false
 own_off by (Ok c) none off =
     unless_off (fault_at c by.target_exists by.mode) c by.mode none off

@@ -1,7 +1,7 @@
 -- What is no push of what was sent to a connection is the replies to its commands, in order.
 use Rattle.std.proofs.Common.{◌≡◌, ◌+◌, ℕ, List, [], ◌∷◌, ◌++◌, length, Bool, true, false, cond}
 use Rattle.std.proofs.Common.{refl, ap, ◌∙◌, append-nil, Result, Ok, Err, Option, Some, None}
-use Rattle.std.proofs.Common.{arith, inl, inr, sym}
+use Rattle.std.proofs.Common.{arith, inl, inr, map, sym}
 use Rattle.std.specs.Prelude.{◌==◌}
 use Rattle.std.specs.List.{filter}
 use Rattle.std.proofs.lemmas.Bool.{cases_Bool, eqb-true}
@@ -28,18 +28,18 @@ use Rattle.serial_model.specs.declared.history.Entry.TheVariants.{Admit, Run, Ti
 use Rattle.serial_model.specs.Modes.{Runner, accepted, hello_reply, pong}
 use Rattle.serial_model.specs.Tracking.{Invalidation}
 use Rattle.serial_model.specs.State.{State, is_live, is_on}
-use Rattle.serial_model.specs.Actions.{Action, End, Message, Sending, expiry_told, later_told}
-use Rattle.serial_model.specs.Actions.{carried, modes_then, replies, routed, to_one, way}
-use Rattle.serial_model.specs.History.{IsLegal, effect_in, effect_of, is_quit, is_served}
-use Rattle.serial_model.specs.History.{keyspace, made}
+use Rattle.serial_model.specs.Actions.{Action, End, Message, Sending, ends, expiry_told}
+use Rattle.serial_model.specs.Actions.{carried, later_told, modes_then, replies, routed, to_one}
+use Rattle.serial_model.specs.Actions.{way}
+use Rattle.serial_model.specs.History.{IsLegal, effect_in, effect_of, is_served, keyspace, made}
 use Rattle.serial_model.specs.History.{mode, ran, run_action, runner, runs_on, sends, sent, sent_to}
-use Rattle.serial_model.specs.History.{served, state, tick_action}
+use Rattle.serial_model.specs.History.{served, served_reading, state, tick_action}
 use Rattle.serial_model.proofs.ActionSends.{run_sends, tick_sends}
 use Rattle.serial_model.proofs.Tables.{sent_to-append}
-use Rattle.serial_model.proofs.ServedRows.{served_cases, data_effect, none_stops}
+use Rattle.serial_model.proofs.ServedRows.{served_cases, data_effect}
 use Rattle.currency.specs.Links.{is_push, is_reply_sent}
-use Rattle.currency.proofs.OffChannel.{KeepsOff, is_of_channel, off_mode, off_tail, ran_own}
-use Rattle.currency.proofs.OffChannel.{served_off}
+use Rattle.currency.proofs.OffChannel.{KeepsOff, has_no_reply, none_stops, off_mode, off_tail}
+use Rattle.currency.proofs.OffChannel.{ran_own, served_off}
 use Rattle.currency.proofs.PushReplies.{no_push}
 use Rattle.currency.proofs.Routes.{route_cases}
 use Rattle.currency.proofs.Runs.{older_all}
@@ -60,7 +60,7 @@ pong_no_push m text = grind arith
 
 module _ (by : Runner) (words : List (List ℕ)) (space : Space) (m : ℕ) where
   own_no_push : (c : Command) → is_served c ≡ true → has_row c ≡ false
-      → is_of_channel (Ok c) ≡ false
+      → has_no_reply (Ok c) ≡ false
       → is_push (effect_of by words (Ok c) space m).reply ≡ false
   unfolding is_push
   own_no_push c is none off = grind (arith, hello_no_push, accepted_no_push, pong_no_push)
@@ -69,17 +69,17 @@ module _ (by : Runner) (words : List (List ℕ)) (space : Space) (m : ℕ) where
   unfolding is_push
   fault_no_push f = refl
 
-  effect_no_push : (read : Result Command WordFault) → is_of_channel (served read) ≡ false
+  effect_no_push : (read : Result Command WordFault) → has_no_reply (served read) ≡ false
       → is_push (effect_of by words (served read) space m).reply ≡ false
   effect_no_push =
-      served_cases (λ r. is_of_channel r ≡ false
+      served_cases (λ r. has_no_reply r ≡ false
       → is_push (effect_of by words r space m).reply ≡ false) own_no_push
       (λ c row off. ap (λ (e : Effect). is_push e.reply) (data_effect by words c space m row)
       ∙ (no_push c space m row).is)
       (λ f off. fault_no_push f)
 
 pub reply_no_push : (l : Limits) (past : List Entry) (id : ℕ) (words : List (List ℕ)) (m : ℕ)
-    → (mode l id past).subscribed ≡ false → is_of_channel (reading words) ≡ false
+    → (mode l id past).subscribed ≡ false → has_no_reply (reading words) ≡ false
     → is_push (ran l past id words m).reply ≡ false
 reply_no_push l past id words m off none =
     let by = runner l past id words m in
@@ -98,15 +98,23 @@ reply_to l past id words moment =
     Message (made l past id words moment).mode.proto (ran l past id words moment).reply
 
 -- it is the one reply of the entry
-pub reply_some : (l : Limits) (past : List Entry) (id : ℕ) (words : List (List ℕ)) (m : ℕ)
-    → (effect_in (state l past) id words m).reply ≡ Some (ran l past id words m).reply
-reply_some l past id words m =
-    ap (λ b. cond b None (Some (ran l past id words m).reply)) (none_stops (reading words))
+module _ (l : Limits) (past : List Entry) (id : ℕ) (words : List (List ℕ)) (m : ℕ)
+    (off : has_no_reply (reading words) ≡ false) where
+  pub reply_some : (effect_in (state l past) id words m).reply
+      ≡ Some (ran l past id words m).reply
+  reply_some =
+      ap (λ b. cond b None (Some (ran l past id words m).reply))
+      (none_stops (mode l id past) (served_reading words) (served_off (reading words) off))
 
-pub reply_is : (l : Limits) (past : List Entry) (id : ℕ) (words : List (List ℕ)) (m : ℕ)
-    → replies (run_action id words m (state l past)) ≡ (id, reply_to l past id words m) ∷ []
-reply_is l past id words m =
-    ap (to_one id (made l past id words m).mode.proto) (reply_some l past id words m)
+  pub reply_is : replies (run_action id words m (state l past))
+      ≡ (id, reply_to l past id words m) ∷ []
+  reply_is = ap (to_one id (made l past id words m).mode.proto) reply_some
+
+-- a reply is for the connection whose command it answers
+pub other_reply : (n c id : ℕ) (p : Proto) (v : Option Value) → (id == c) ≡ false
+    → sent_to n c (to_one id p v) ≡ []
+other_reply n c id p None other = refl
+other_reply n c id p (Some v) other = ap (λ b. cond b ((n, Message p v) ∷ []) []) other
 
 -- the replies to a connection's commands, in order
 unfoldable pub replies_of : Limits → ℕ → List Entry → List (ℕ × Sending)
@@ -168,6 +176,12 @@ end_no_reply : (n c id : ℕ) (b : Bool)
 unfolding is_reply_sent
 end_no_reply n c id b = grind (arith, common_steps)
 
+ends_no_reply : (n c : ℕ) (ids : List ℕ)
+    → filter is_reply_at (sent_to n c (map (λ id. (id, End)) ids)) ≡ []
+unfolding is_reply_sent
+ends_no_reply n c [] = refl
+ends_no_reply n c (id ∷ ids) = grind (arith, common_steps, ends_no_reply n c ids)
+
 -- what a Run of a connection that has not ended sends, in order
 module _ (l : Limits) (past : List Entry) (id : ℕ) (words : List (List ℕ)) (m : ℕ) where
   abbrev s : State
@@ -182,16 +196,14 @@ module _ (l : Limits) (past : List Entry) (id : ℕ) (words : List (List ℕ)) (
   abbrev pub late : List (ℕ × Sending)
   late = routed (modes_then t s) (is_on s) (later_told l t s)
 
-  -- a connection that quits is sent its end last
+  -- those that end by it are sent their ends last
   abbrev pub ending : List (ℕ × Sending)
-  ending = cond (is_quit words) ((id, End) ∷ []) []
+  ending = map (λ c. (c, End)) (ends l t s)
 
   pub run_sends_are : IsLegal l past → runs_on l past id ≡ true
       → sends l (Run id words m) (state l past)
-      ≡ ((early ++ (id, reply_to l past id words m) ∷ []) ++ late) ++ ending
-  run_sends_are legal on =
-      run_sends l past id words m legal on
-      ∙ ap (λ x. ((early ++ x) ++ late) ++ ending) (reply_is l past id words m)
+      ≡ ((early ++ replies t) ++ late) ++ ending
+  run_sends_are legal on = run_sends l past id words m legal on
 
 filter_parts : (n c : ℕ) (xs ys zs us : List (ℕ × Sending))
     → filter is_reply_at (sent_to n c (((xs ++ ys) ++ zs) ++ us))
@@ -215,7 +227,7 @@ module _ (l : Limits) (c : ℕ) where
   -- that of an entry
   own_kept : (n id m : ℕ) (words : List (List ℕ)) (past : List Entry)
       → KeepsOff c (Run id words m ∷ past)
-      → filter is_reply_at (sent_to n c ((id, reply_to l past id words m) ∷ []))
+      → filter is_reply_at (sent_to n c (replies (run_action id words m (state l past))))
       ≡ cond (id == c) ((n, reply_to l past id words m) ∷ []) []
   own_kept n id m words past keeps = elim (cases_Bool (id == c)) [
     | inl own ↦
@@ -223,10 +235,12 @@ module _ (l : Limits) (c : ℕ) where
         ap (λ d. (mode l d past).subscribed) (eqb-true id c own)
         ∙ off_mode l c past (off_tail c (Run id words m) past keeps) in
         let none = keeps id m words past (older_all (Run id words m ∷ past)) own in
-        reply_kept (id == c) n (made l past id words m).mode.proto
+        ap (λ ss. filter is_reply_at (sent_to n c ss)) (reply_is l past id words m none)
+        ∙ reply_kept (id == c) n (made l past id words m).mode.proto
         (ran l past id words m).reply [] (reply_no_push l past id words m before none) refl
     | inr other ↦
-        ap (λ b. filter is_reply_at (cond b ((n, reply_to l past id words m) ∷ []) [])) other
+        let e = effect_in (state l past) id words m in
+        ap (filter is_reply_at) (other_reply n c id e.mode.proto e.reply other)
         ∙ ap (λ b. cond b ((n, reply_to l past id words m) ∷ []) []) (sym other)
   ]
 
@@ -239,20 +253,19 @@ module _ (l : Limits) (c : ℕ) where
       let t = run_action id words m s in
       let before = off_mode l c past (off_tail c (Run id words m) past keeps) in
       let after = then_off id m words past keeps in
-      let reply = reply_to l past id words m in
       ap (λ ss. filter is_reply_at (sent_to n c ss)) (run_sends_are l past id words m legal on)
-      ∙ filter_parts n c (early l past id words m) ((id, reply) ∷ []) (late l past id words m)
+      ∙ filter_parts n c (early l past id words m) (replies t) (late l past id words m)
       (ending l past id words m)
-      ∙ ap (λ x. ((x ++ filter is_reply_at (sent_to n c ((id, reply) ∷ [])))
+      ∙ ap (λ x. ((x ++ filter is_reply_at (sent_to n c (replies t)))
       ++ filter is_reply_at (sent_to n c (late l past id words m)))
       ++ filter is_reply_at (sent_to n c (ending l past id words m)))
       (routed_no_reply n c s.modes before (is_on s) (expiry_told t s))
-      ∙ ap (λ x. (filter is_reply_at (sent_to n c ((id, reply) ∷ [])) ++ x)
+      ∙ ap (λ x. (filter is_reply_at (sent_to n c (replies t)) ++ x)
       ++ filter is_reply_at (sent_to n c (ending l past id words m)))
       (routed_no_reply n c (modes_then t s) after (is_on s) (later_told l t s))
-      ∙ ap (λ x. (filter is_reply_at (sent_to n c ((id, reply) ∷ [])) ++ []) ++ x)
-      (end_no_reply n c id (is_quit words))
-      ∙ none_behind (filter is_reply_at (sent_to n c ((id, reply) ∷ [])))
+      ∙ ap (λ x. (filter is_reply_at (sent_to n c (replies t)) ++ []) ++ x)
+      (ends_no_reply n c (ends l t s))
+      ∙ none_behind (filter is_reply_at (sent_to n c (replies t)))
       ∙ own_kept n id m words past keeps
     where
       none_behind : (xs : List (ℕ × Sending)) → (xs ++ []) ++ [] ≡ xs
@@ -265,14 +278,17 @@ module _ (l : Limits) (c : ℕ) where
       let t = tick_action m s in
       let before = off_mode l c past (off_tail c (Tick m) past keeps) in
       let after = tick_off m past keeps in
+      let ending = map (λ c. (c, End)) (ends l t s) in
       ap (λ ss. filter is_reply_at (sent_to n c ss)) (tick_sends l past m legal)
       ∙ filter_parts n c (routed s.modes (is_on s) (expiry_told t s)) []
-      (routed (modes_then t s) (is_on s) (later_told l t s)) []
+      (routed (modes_then t s) (is_on s) (later_told l t s)) ending
       ∙ ap (λ x. ((x ++ [])
       ++ filter is_reply_at (sent_to n c (routed (modes_then t s) (is_on s) (later_told l t s))))
-      ++ []) (routed_no_reply n c s.modes before (is_on s) (expiry_told t s))
-      ∙ ap (λ x. x ++ [])
+      ++ filter is_reply_at (sent_to n c ending))
+      (routed_no_reply n c s.modes before (is_on s) (expiry_told t s))
+      ∙ ap (λ x. x ++ filter is_reply_at (sent_to n c ending))
       (routed_no_reply n c (modes_then t s) after (is_on s) (later_told l t s))
+      ∙ ends_no_reply n c (ends l t s)
 
   add_none : (e : Entry) (past : List Entry)
       → filter is_reply_at (sent_to (length past + 1) c (sends l e (state l past))) ≡ []
@@ -288,8 +304,8 @@ module _ (l : Limits) (c : ℕ) where
   unfolding replies_of
   replies_are_of_runs [] h keeps = refl
   replies_are_of_runs (Tick m ∷ past) h keeps =
-      add_none (Tick m) past (tick_reply (length past + 1) m past h.2 keeps)
-      (replies_are_of_runs past h.2 (off_tail c (Tick m) past keeps))
+      add_none (Tick m) past (tick_reply (length past + 1) m past h.3 keeps)
+      (replies_are_of_runs past h.3 (off_tail c (Tick m) past keeps))
   replies_are_of_runs (Close id ∷ past) h keeps =
       add_none (Close id) past
       (end_no_reply (length past + 1) c id (is_live ((state l past).standing id)))
@@ -305,7 +321,7 @@ module _ (l : Limits) (c : ℕ) where
       ((length past + 1, reply_to l past id words m) ∷ [])
   replies_are_of_runs (Admit id ∷ past) h keeps =
       add_none (Admit id) past refl
-      (replies_are_of_runs past h.1 (off_tail c (Admit id) past keeps))
+      (replies_are_of_runs past h.2 (off_tail c (Admit id) past keeps))
   replies_are_of_runs (Take id max ∷ past) h keeps =
       add_none (Take id max) past refl
       (replies_are_of_runs past h.2 (off_tail c (Take id max) past keeps))

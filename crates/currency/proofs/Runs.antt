@@ -8,7 +8,7 @@ use Rattle.std.proofs.lemmas.Grind.{common_steps}
 use Rattle.resp_value.specs.Lists.{IsPrefix}
 use Rattle.serial_model.specs.declared.history.Limits.{Limits}
 use Rattle.serial_model.specs.declared.history.Entry.{Entry}
-use Rattle.serial_model.specs.declared.history.Entry.TheVariants.{Admit, Run, Close}
+use Rattle.serial_model.specs.declared.history.Entry.TheVariants.{Run, Tick, Close}
 use Rattle.serial_model.specs.History.{runs_of, IsLegal, run_entries}
 use Rattle.currency.specs.Links.{up_to}
 use Rattle.currency.proofs.Lists.{get_front, get_parts, get_one, get_last, Behind}
@@ -87,7 +87,7 @@ same_older past a b o m e =
 
 pub older_legal : (l : Limits) (newer up : List Entry) → IsLegal l (newer ++ up) → IsLegal l up
 older_legal l [] up h = h
-older_legal l (Admit id ∷ newer) up h = older_legal l newer up h.1
+older_legal l (Tick moment ∷ newer) up h = older_legal l newer up h.3
 older_legal l (Close id ∷ newer) up h = older_legal l newer up h.1
 older_legal l (e ∷ newer) up h = older_legal l newer up h.2
 

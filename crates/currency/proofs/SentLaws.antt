@@ -48,7 +48,7 @@ module _ (l : Limits) (x : Client) (past : List Entry) where
     sent_order = λ w i. sent_order (x.id w) l past;
   }
 
-  -- where each of the client's connections keeps off the channel of invalidations
+  -- where each of the client's connections keeps off what has no reply
   pub sent_laws_of : IsLegal l past
       → ((w : Wire) → HasWire x.setup.mode.shape w → KeepsOff (x.id w) past)
       → SentLaws IsGot (traffic_of l x past)

@@ -45,7 +45,7 @@ module _ (l : Limits) (x : Client) (past : List Entry) (log : List LogEntry)
       prefix_more (runs_of (x.id Main) up) (runs_of (x.id Main) past) (commands x.setup Main log)
       (runs_older (x.id Main) up past o) (meet.ran Main (has_main x.setup.mode.shape))
 
-  -- each of the client's connections keeps off the channel of invalidations
+  -- each of the client's connections keeps off what has no reply
   pub off_main : KeepsOff (x.id Main) past
   off_main =
       keeps_off x.setup link log legal_log (x.id Main) past

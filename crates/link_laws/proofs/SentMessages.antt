@@ -12,7 +12,8 @@ use Rattle.command_words.specs.declared.command.Command.TheVariants.{Ping, Echo,
 use Rattle.command_words.specs.declared.command.Command.TheVariants.{ClientId, ClientTracking}
 use Rattle.command_words.specs.declared.command.Command.TheVariants.{ClientCaching, ClientGetRedir}
 use Rattle.command_words.specs.declared.command.Command.TheVariants.{ClientTrackingInfo}
-use Rattle.command_words.specs.declared.command.Command.TheVariants.{Subscribe, Unsubscribe}
+use Rattle.command_words.specs.declared.command.Command.TheVariants.{Shutdown, Subscribe}
+use Rattle.command_words.specs.declared.command.Command.TheVariants.{Unsubscribe}
 use Rattle.command_words.specs.declared.command.WordFault.{WordFault}
 use Rattle.command_words.specs.declared.command.WordFault.TheVariants.{Arity}
 use Rattle.command_words.specs.Expiry.{without_due}
@@ -37,8 +38,8 @@ use Rattle.serial_model.specs.Modes.{tracking_info, unsubscribe_reply}
 use Rattle.serial_model.specs.Tracking.{Invalidation}
 use Rattle.serial_model.specs.State.{State, is_live, is_on}
 use Rattle.serial_model.specs.Actions.{Action, Sending, End, action_sends, all_messages, carried}
-use Rattle.serial_model.specs.Actions.{ends, expiry_told, heard, is_overgrown, later_told, messages}
-use Rattle.serial_model.specs.Actions.{modes_then, replies, route_at, routed, to_one, way}
+use Rattle.serial_model.specs.Actions.{ends, expiry_told, heard, later_told, messages, modes_then}
+use Rattle.serial_model.specs.Actions.{replies, route_at, routed, to_one, way}
 use Rattle.serial_model.specs.History.{effect_of, keyspace, ran_over, ran, run_action, runner}
 use Rattle.serial_model.specs.History.{sends, sent_to, served, served_reading, state, tick_action}
 use Rattle.serial_model.proofs.ServedRows.{ran_cases}
@@ -115,6 +116,7 @@ effect_of_good by words (Ok (Echo text)) space m h = λ p. tt
 effect_of_good by words (Ok (Hello word)) space m h = grind (arith, plain_text)
 effect_of_good by words (Ok Reset) space m h = λ p. plain_text (codes "RESET") refl
 effect_of_good by words (Ok Quit) space m h = λ p. plain_text (codes "OK") refl
+effect_of_good by words (Ok (Shutdown mode)) space m h = λ p. tt
 effect_of_good by words (Ok ClientId) space m h = λ p. tt
 effect_of_good by words (Ok (ClientTracking options)) space m h =
     accepted_good (fault_at (ClientTracking options) by.target_exists by.mode)
@@ -199,10 +201,10 @@ module _ (l : Limits) (s : State) (t : Action) (replied : Readable (replies t)) 
       (readable_both told (replies t) (readable_routed s.modes (is_on s) (expiry_told t s)) replied)
       (readable_routed (modes_then t s) (is_on s) (later_told l t s)))
 
-  readable_action : Readable (action_sends (is_overgrown l t s) l t s)
+  readable_action : Readable (action_sends l t s)
   readable_action =
-      readable_both (messages l t s) (map (λ c. (c, End)) (ends (is_overgrown l t s) t s))
-      readable_messages (readable_ends (ends (is_overgrown l t s) t s))
+      readable_both (messages l t s) (map (λ c. (c, End)) (ends l t s))
+      readable_messages (readable_ends (ends l t s))
 
 readable_close : (b : Bool) (id : ℕ) → Readable (cond b ((id, End) ∷ []) [])
 readable_close true id = (tt, tt)

@@ -38,6 +38,8 @@ pub enum Refusal<'a> {
     Control,
     /// The client owes nobody a reply of this number.
     NoNumber,
+    /// A SHUTDOWN ran.
+    Stopped,
 }
 
 /// At most forty bytes of a word, those that are no visible ASCII as `\xHH`.
@@ -126,6 +128,9 @@ impl fmt::Display for Refusal<'_> {
             Refusal::NoNumber => f.write_str(
                 "the client gave no command this number, or handed its reply out before",
             ),
+            Refusal::Stopped => f.write_str(
+                "a SHUTDOWN ran, and the server takes no connection and no tick",
+            ),
         }
     }
 }
@@ -183,15 +188,17 @@ pub fn find_loose_byte<'a>(line: &[u8]) -> Option<LineFault<'a>> {
 /// Why the event of the line was refused, by the digit that was written of it.
 pub fn find_refusal(digit: u8, line: &[u8]) -> Refusal<'_> {
     let (kind, rest) = first_word(line);
-    let (name, _) = first_word(rest);
+    let (name, rest) = first_word(rest);
+    let (shape, _) = first_word(rest);
     match (digit, kind) {
         (b'1', b"say" | b"bytes") => Refusal::NoRaw(name),
         (b'1', b"ask" | b"do" | b"poll" | b"show") => Refusal::NoClient(name),
         (b'1', _) => Refusal::NoLink(name),
         (b'2', _) => Refusal::NameTaken(name),
-        (b'5', b"client") => Refusal::Mode,
+        (b'5', b"client") if !matches!(shape, b"single") => Refusal::Mode,
         (b'5', b"do") => Refusal::Control,
-        (b'5', _) => Refusal::NoNumber,
+        (b'5', b"poll") => Refusal::NoNumber,
+        (b'5', _) => Refusal::Stopped,
         _ => Refusal::NothingThere,
     }
 }

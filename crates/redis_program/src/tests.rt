@@ -66,7 +66,7 @@ fn a_run_writes_the_transcript_and_the_last_line_of_its_status(
         ("World", "raw r\n", Status::Usage, "usage\n"),
         ("world world", "raw r\n", Status::Usage, "usage\n"),
         ("world --table-max 0", "raw r\n", Status::Usage, "usage\n"),
-        ("world --out-max=2", "raw r\n", Status::Usage, "usage\n"),
+        ("world --out-max=0", "raw r\n", Status::Usage, "usage\n"),
         (
             "world --history-max 05",
             "raw r\n",
@@ -84,8 +84,8 @@ fn a_run_writes_the_transcript_and_the_last_line_of_its_status(
         (
             "serve --port 7000 --out-max 5",
             "",
-            Status::Usage,
-            "usage\n",
+            Status::NetFault,
+            "net-fault\n",
         ),
         (
             "serve --port 7000",
@@ -237,6 +237,19 @@ fn a_run_writes_the_transcript_and_the_last_line_of_its_status(
             "raw r\nbytes r \\x0D\n",
             Status::BadLine,
             "#1 admit r 1\nbad-line 2\n",
+        ),
+        (
+            "world --out-max 10",
+            "raw a\nsay a ECHO hello\nraw b\nsay b ECHO hell\nflow\n",
+            Status::Done,
+            "#1 admit a 1\n#2 admit b 2\n#3 run a ECHO hello\n#3 drop a\na end\n\
+             #4 run b ECHO hell\n#5 take b 10\nb < $4\\r\\nhell\\r\\n\n",
+        ),
+        (
+            "world",
+            "raw a\nraw b\nsay a SHUTDOWN\nserve a\nraw c\n",
+            Status::Refused,
+            "#1 admit a 1\n#2 admit b 2\n#3 run a SHUTDOWN\n#3 drop a\n#3 drop b\nrefused 5 5\n",
         ),
     ] {
         let words = words_of(rt.alloc(), words)?;
@@ -474,6 +487,21 @@ fn a_person_is_told_what_is_wrong_with_a_line(rt: HostRuntime) -> Result<(), Fai
             b'5',
             "poll x 9",
             "the client gave no command this number, or handed its reply out before",
+        ),
+        (
+            b'5',
+            "raw c",
+            "a SHUTDOWN ran, and the server takes no connection and no tick",
+        ),
+        (
+            b'5',
+            "client x single 3 default 1",
+            "a SHUTDOWN ran, and the server takes no connection and no tick",
+        ),
+        (
+            b'5',
+            "tick",
+            "a SHUTDOWN ran, and the server takes no connection and no tick",
         ),
     ] {
         let refusal = find_refusal(digit, line.as_bytes());

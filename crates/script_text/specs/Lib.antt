@@ -3,6 +3,7 @@ pub mod Escapes
 pub mod Clients
 pub mod Events
 pub mod Printed
+pub mod Lending
 pub mod Grammar
 pub mod Valid
 pub mod Storm

@@ -8,10 +8,10 @@ use Rattle.resp_value.specs.declared.value.Value.{Value}
 use Rattle.resp_value.specs.Spelling.{spelling}
 use Rattle.resp_value.specs.ValueTree.{tree_of}
 use Rattle.script_text.specs.declared.line.Line.{Line}
-use Rattle.script_text.specs.declared.line.Line.TheVariants.{Admit, Run, Bad, Close, Take, Read}
+use Rattle.script_text.specs.declared.line.Line.TheVariants.{Admit, Run, Drop, Bad, Close, Take}
 use Rattle.script_text.specs.declared.line.Line.TheVariants.{Fault, End, Hit, Miss, Sent, Answer}
 use Rattle.script_text.specs.declared.line.Line.TheVariants.{Wait, Down, NotReady, Holds, Complete}
-use Rattle.script_text.specs.declared.line.Line.TheVariants.{Tick}
+use Rattle.script_text.specs.declared.line.Line.TheVariants.{Read, Tick}
 
 -- the number of an entry, what it is, and the link
 abbrev pub entry_text : ℕ → List ℕ → List ℕ → List ℕ
@@ -36,6 +36,7 @@ unended_text (Admit entry link id) = entry_text entry (codes " admit ") link ++ 
 unended_text (Run entry link words) = entry_text entry (codes " run ") link ++ words_text words
 unended_text (Bad link fault offset) = number_text link (codes " bad ") fault ++ codes " "
     ++ decimal offset
+unended_text (Drop entry link) = entry_text entry (codes " drop ") link
 unended_text (Close entry link) = entry_text entry (codes " close ") link
 unended_text (Take entry link count) = entry_text entry (codes " take ") link ++ codes " "
     ++ decimal count

@@ -19,6 +19,9 @@ pub enum Line {
     Admit(u64, Octets, u64),
     /// `#E run L WORD..`: a request ran.
     Run(u64, Octets, Words),
+    /// `#E drop L`: behind it, the connection was dropped, by a SHUTDOWN or since more bytes waited
+    /// for it than the limit.
+    Drop(u64, Octets),
     /// `L bad F O`: the bytes at the server's or the client's end broke the protocol, by the fault
     /// F at the offset O.
     Bad {
@@ -84,6 +87,9 @@ impl Model for Lines {
 }
 
 impl Lines {
+    ghost use Rattle.std.specs.Borrow.{sem};
+    ghost use Rattle.script_text.specs.Lending.{lends_items};
+
     /// No line.
     pub fn new(alloc: Global) -> Lines
         ensures { result ≡ [] }
@@ -108,6 +114,14 @@ impl Lines {
         ensures some { IsSome result ↔ (0 < length self.old) }
     {
         self.items.pop()
+    }
+
+    /// The vector of the lines, for places that are taken before it is known what they are for.
+    pub fn items_mut(&mut self) -> &mut Vec<Line>
+        ensures* writes_back { sem 𝓛 (lends_items self.entry result) }
+        ensures items { result.now.items ≡ self.old }
+    {
+        &mut self.items
     }
 
     /// The lines in order.
@@ -262,6 +276,7 @@ fn put_text(line: &Line, out: &mut Vec<u8>) -> Result<(), NoMemory>
             put_number_of(link, b" bad ", *number, out)?;
             put_last(b" ", *offset, out)
         }
+        Line::Drop(entry, link) => put_entry(*entry, b" drop ", link, out),
         Line::Close(entry, link) => put_entry(*entry, b" close ", link, out),
         Line::Take(entry, link, count) => put_entry_number(*entry, b" take ", link, *count, out),
         Line::Tick(entry, moment) => {

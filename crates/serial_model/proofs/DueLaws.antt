@@ -27,7 +27,7 @@ use Rattle.serial_model.specs.Actions.{Sending, End, Action, carried, way, route
 use Rattle.serial_model.specs.Actions.{route_at}
 use Rattle.serial_model.specs.Actions.{replies, all_messages, messages, modes_then, expiry_told}
 use Rattle.serial_model.specs.Actions.{heard}
-use Rattle.serial_model.specs.Actions.{later_told, action_sends, ends, is_overgrown}
+use Rattle.serial_model.specs.Actions.{later_told, action_sends, ends}
 use Rattle.serial_model.specs.History.{state, sent_to, run_action, tick_action, action_told}
 use Rattle.serial_model.specs.Laws.{receiver, telling, IsToldAmong, ReceivedBy, DueIsSent}
 use Rattle.serial_model.specs.Laws.{ToldIsSent}
@@ -169,48 +169,49 @@ heard_all n r s [] on = refl
 heard_all n r s (m ∷ ss) on =
     heard_one n r s m (heard s ss) ss (is_on s m.0) on refl (heard_all n r s ss on)
 
--- what is told before the command and behind it, each by its route
-action_told_among : (o : ℕ → Bool) (l : Limits) (t : Action) (s : State) (n c r : ℕ) (proto : Proto)
-    (key : List ℕ) → is_on s r ≡ true
+-- what is told before the command and behind it, each by its route; the last as by these modes
+pub action_told_among : (l : Limits) (t : Action) (s : State) (n c r : ℕ) (proto : Proto)
+    (key : List ℕ) (last : ℕ → ModeState) → is_on s r ≡ true
+    → routed (modes_then t s) (is_on s) (later_told l t s)
+    ≡ routed last (is_on s) (later_told l t s)
     → (list_any (tells c key) (expiry_told t s) ≡ true
     → receiver (route_at s.modes (is_on s) c) ≡ Some (r, proto))
     → (list_any (tells c key) (later_told l t s) ≡ true
-    → receiver (route_at (modes_then t s) (is_on s) c) ≡ Some (r, proto))
+    → receiver (route_at last (is_on s) c) ≡ Some (r, proto))
     → list_any (tells c key) (action_told l t s) ≡ true
-    → IsToldAmong proto key n (sent_to n r (action_sends o l t s))
-action_told_among o l t s n c r proto key on first_to last_to due =
-    let first = routed s.modes (is_on s) (expiry_told t s) in
-    let last = routed (modes_then t s) (is_on s) (later_told l t s) in
-    among_before n r proto key (messages l t s) (map (λ c. (c, End)) (ends o t s))
+    → IsToldAmong proto key n (sent_to n r (action_sends l t s))
+action_told_among l t s n c r proto key last on same first_to last_to due =
+    let before = routed s.modes (is_on s) (expiry_told t s) ++ replies t in
+    let behind = routed last (is_on s) (later_told l t s) in
+    among_before n r proto key (messages l t s) (map (λ c. (c, End)) (ends l t s))
     (rw (heard_all n r s (all_messages l t s) on)
+    (subst (λ x. IsToldAmong proto key n (sent_to n r (before ++ x))) (sym same)
     (elim (or_cases _ _ (sym (list_any-append (tells c key) (expiry_told t s) (later_told l t s))
     ∙ due)) [
-      | inl e ↦ among_before n r proto key (first ++ replies t) last
-          (among_before n r proto key first (replies t)
+      | inl e ↦ among_before n r proto key before behind
+          (among_before n r proto key _ (replies t)
           (routed_among n r proto key s.modes (is_on s) c (expiry_told t s) (first_to e) e))
-      | inr e ↦ among_behind n r proto key (first ++ replies t) last
-          (routed_among n r proto key (modes_then t s) (is_on s) c (later_told l t s) (last_to e) e)
-    ]))
+      | inr e ↦ among_behind n r proto key before behind
+          (routed_among n r proto key last (is_on s) c (later_told l t s) (last_to e) e)
+    ])))
 
-action_due : (o : ℕ → Bool) (l : Limits) (t : Action) (s : State) (n c r : ℕ) (proto : Proto)
+action_due : (l : Limits) (t : Action) (s : State) (n c r : ℕ) (proto : Proto)
     (key : List ℕ) → is_on s c ≡ true → ReceivedBy t s c r proto
     → list_any (tells c key) (action_told l t s) ≡ true
-    → IsToldAmong proto key n (sent_to n r (action_sends o l t s))
-action_due o l t s n c r proto key on to due =
-    action_told_among o l t s n c r proto key (receiver_on s.modes (is_on s) c r proto on to.0)
-    (λ e. to.0) (λ e. to.1) due
+    → IsToldAmong proto key n (sent_to n r (action_sends l t s))
+action_due l t s n c r proto key on to due =
+    action_told_among l t s n c r proto key (modes_then t s)
+    (receiver_on s.modes (is_on s) c r proto on to.0) refl (λ e. to.0) (λ e. to.1) due
 
 pub due_is_sent : DueIsSent
 due_is_sent l (Run id words m) past c r proto key on to due =
     let s = state l past in
     let t = run_action id words m s in
-    action_due (is_overgrown l t s) l t s (length past + 1) c r proto key (on_is l past c ∙ on) to
-    due
+    action_due l t s (length past + 1) c r proto key (on_is l past c ∙ on) to due
 due_is_sent l (Tick m) past c r proto key on to due =
     let s = state l past in
     let t = tick_action m s in
-    action_due (is_overgrown l t s) l t s (length past + 1) c r proto key (on_is l past c ∙ on) to
-    due
+    action_due l t s (length past + 1) c r proto key (on_is l past c ∙ on) to due
 due_is_sent l e past c r proto key on to due = absurd (let no : ⊥ = cc in no)
 
 pub told_is_sent : ToldIsSent
@@ -281,7 +282,7 @@ module _ (l : Limits) (past : List Entry) (c : ℕ) (key : List ℕ) where
       (sent_to (length past + 1) c (sends l (Run id words moment) now))
   run_pushed id moment words on before then due =
       let t = run_action id words moment now in
-      action_told_among (is_overgrown l t now) l t now (length past + 1) c c Three key on
+      action_told_among l t now (length past + 1) c c Three key (modes_then t now) on refl
       (λ e. pushes_to c (now.modes c) (target_at now.modes (is_on now) c) before
       (first_tracks t e))
       (λ e. pushes_to c (modes_then t now c) (target_at (modes_then t now) (is_on now) c) then
@@ -300,7 +301,7 @@ module _ (l : Limits) (past : List Entry) (c : ℕ) (key : List ℕ) where
       (sent_to (length past + 1) c (sends l (Tick moment) now))
   tick_pushed moment on before due =
       let t = tick_action moment now in
-      action_told_among (is_overgrown l t now) l t now (length past + 1) c c Three key on
+      action_told_among l t now (length past + 1) c c Three key (modes_then t now) on refl
       (λ e. pushes_to c (now.modes c) (target_at now.modes (is_on now) c) before
       (first_tracks t e))
       (λ e. absurd (both_ways _

@@ -3,7 +3,7 @@ use Rattle.std.proofs.Common.{◌≡◌, ◌+◌, ◌<◌, ◌≤◌, ℕ, zero,
 use Rattle.std.proofs.Common.{false}
 use Rattle.std.proofs.Common.{cond, refl, sym, ap, ◌∙◌, arith, map, append_assoc, append-nil}
 use Rattle.std.proofs.Common.{length}
-use Rattle.std.specs.Prelude.{◌||◌, ◌&&◌, not}
+use Rattle.std.specs.Prelude.{◌||◌, ◌&&◌, not, nat_le, nat_lt}
 use Rattle.std.proofs.lemmas.Bool.{eqb-true, or_from, and_right}
 use Rattle.std.proofs.lemmas.List.{map-append}
 use Rattle.std.proofs.lemmas.Bool.Decides.{nat_tests}
@@ -18,7 +18,7 @@ use Rattle.serial_model.specs.State.{State, is_on, is_live, at}
 use Rattle.serial_model.specs.Tracking.{has_id, ids_where}
 use Rattle.serial_model.specs.Actions.{Sending, End, Action, action_sends, action_leaves, ends}
 use Rattle.serial_model.specs.Actions.{messages}
-use Rattle.serial_model.specs.Actions.{all_messages, quits, is_overgrown}
+use Rattle.serial_model.specs.Actions.{all_messages, quits, is_ending, is_overgrown}
 use Rattle.serial_model.specs.History.{state, sends, next, sent, sent_to, run_action, tick_action}
 use Rattle.serial_model.specs.Laws.{has_end, ModeByOwnRuns, EndIsSent, EndIsLast, EndIsAtItsEntry}
 use Rattle.serial_model.proofs.Tables.{sent_to-append}
@@ -31,9 +31,6 @@ step l e past = refl
 
 abbrev pub gone : State → ℕ → Bool
 gone s c = not (is_live (s.standing c))
-
-abbrev pub is_ending : (ℕ → Bool) → Action → State → ℕ → Bool
-is_ending o t s c = is_live (s.standing c) && (quits t c || is_stopping t.effect.ending || o c)
 
 -- ---- modes
 
@@ -48,35 +45,54 @@ mode_by_own_runs l c (Tick moment) past h = at_same 0 (state l past).modes c
 mode_by_own_runs l c (Take id max) past h = refl
 mode_by_own_runs l c (Close id) past h = refl
 
+-- ---- those for which a test holds
+
+pub ids_test : (test : ℕ → Bool) (c n : ℕ)
+    → has_id c (ids_where test n) ≡ ((nat_lt 0 c && nat_le c n) && test c)
+ids_test test c zero = grind (arith, nat_tests)
+ids_test test c (suc n) =
+    grind (arith, list_any-append, nat_tests, eqb-true, ids_test test c n)
+
+each_of : (a x b : Bool) → (a && (x && b)) ≡ ((a && x) && b)
+each_of a x b = grind arith
+
+-- whom an action ends was on
+pub ends_are : (l : Limits) (t : Action) (s : State) (c : ℕ)
+    → has_id c (ends l t s)
+    ≡ (is_on s c && (quits t c || is_stopping t.effect.ending || is_overgrown l t s c))
+ends_are l t s c =
+    ids_test (is_ending l t s) c s.admitted
+    ∙ each_of (nat_lt 0 c && nat_le c s.admitted) (is_live (s.standing c)) _
+
 -- ---- ends
 
-action_end : (o : ℕ → Bool) (l : Limits) (t : Action) (s : State) (n c : ℕ)
-    → has_end (sent_to n c (action_sends o l t s)) ≡ has_id c (ends o t s)
-action_end o l t s n c =
-    ap has_end (sent_to-append n c (messages l t s) (map (λ id. (id, End)) (ends o t s)))
+action_end : (l : Limits) (t : Action) (s : State) (n c : ℕ)
+    → has_end (sent_to n c (action_sends l t s)) ≡ has_id c (ends l t s)
+action_end l t s n c =
+    ap has_end (sent_to-append n c (messages l t s) (map (λ id. (id, End)) (ends l t s)))
     ∙ list_any-append _ (sent_to n c (messages l t s)) _
-    ∙ ap (λ b. b || has_end (sent_to n c (map (λ id. (id, End)) (ends o t s))))
+    ∙ ap (λ b. b || has_end (sent_to n c (map (λ id. (id, End)) (ends l t s))))
     (sent_none n c (messages l t s) (messages_none l t s))
-    ∙ ends_to n c (ends o t s)
+    ∙ ends_to n c (ends l t s)
 
 stands : (q h : Bool) (x : Standing) (y z : Standing) → is_live y ≡ false → is_live z ≡ false
     → not (is_live (cond h (cond q y z) x)) ≡ (not (is_live x) || h)
 stands q h x y z e f = grind arith
 
-action_gone : (o : ℕ → Bool) (l : Limits) (t : Action) (s : State) (n c : ℕ)
-    → gone (action_leaves o l t s) c ≡ (gone s c || has_end (sent_to n c (action_sends o l t s)))
-action_gone o l t s n c =
-    stands (quits t c) (has_id c (ends o t s)) (s.standing c) Quit Gone refl refl
-    ∙ ap (λ b. gone s c || b) (sym (action_end o l t s n c))
+action_gone : (l : Limits) (t : Action) (s : State) (n c : ℕ)
+    → gone (action_leaves l t s) c ≡ (gone s c || has_end (sent_to n c (action_sends l t s)))
+action_gone l t s n c =
+    stands (quits t c) (has_id c (ends l t s)) (s.standing c) Quit Gone refl refl
+    ∙ ap (λ b. gone s c || b) (sym (action_end l t s n c))
 
 -- whether a connection has ended after an entry
 pub ended_then : (l : Limits) (e : Entry) (s : State) (n c : ℕ)
     → gone (next l e s) c ≡ (gone s c || has_end (sent_to n c (sends l e s)))
 ended_then l (Admit id) s n c = grind arith
 ended_then l (Run id words moment) s n c =
-    let t = run_action id words moment s in action_gone (is_overgrown l t s) l t s n c
+    let t = run_action id words moment s in action_gone l t s n c
 ended_then l (Tick moment) s n c =
-    let t = tick_action moment s in action_gone (is_overgrown l t s) l t s n c
+    let t = tick_action moment s in action_gone l t s n c
 ended_then l (Take id max) s n c = grind arith
 ended_then l (Close id) s n c = grind (arith, eqb-true)
 
@@ -91,33 +107,30 @@ end_is_sent l c (e ∷ past) =
 
 -- ---- the end is last
 
-pub ids_pass : (test : ℕ → Bool) (c n : ℕ) → test c ≡ false → has_id c (ids_where test n) ≡ false
-ids_pass test c zero h = refl
-ids_pass test c (suc n) h = grind (arith, list_any-append, eqb-true, ids_pass test c n h)
+not_ending : (l : Limits) (t : Action) (s : State) (c : ℕ) → is_live (s.standing c) ≡ false
+    → has_id c (ends l t s) ≡ false
+not_ending l t s c h =
+    ends_are l t s c
+    ∙ ap (λ b. b && (quits t c || is_stopping t.effect.ending || is_overgrown l t s c))
+    (and_right _ _ h)
 
-pub not_ending : (o : ℕ → Bool) (t : Action) (s : State) (c : ℕ) → is_live (s.standing c) ≡ false
-    → has_id c (ends o t s) ≡ false
-not_ending o t s c h =
-    ids_pass (is_ending o t s) c s.admitted
-    (ap (λ b. b && (quits t c || is_stopping t.effect.ending || o c)) h)
-
-action_sends_none : (o : ℕ → Bool) (l : Limits) (t : Action) (s : State) (n c : ℕ)
+action_sends_none : (l : Limits) (t : Action) (s : State) (n c : ℕ)
     → is_live (s.standing c) ≡ false
-    → sent_to n c (action_sends o l t s) ≡ []
-action_sends_none o l t s n c h =
-    sent_to-append n c (messages l t s) (map (λ id. (id, End)) (ends o t s))
-    ∙ ap (λ x. x ++ sent_to n c (map (λ id. (id, End)) (ends o t s)))
+    → sent_to n c (action_sends l t s) ≡ []
+action_sends_none l t s n c h =
+    sent_to-append n c (messages l t s) (map (λ id. (id, End)) (ends l t s))
+    ∙ ap (λ x. x ++ sent_to n c (map (λ id. (id, End)) (ends l t s)))
     (none_live n c (is_on s) (all_messages l t s) (and_right _ _ h))
-    ∙ none_to n c (ends o t s) (not_ending o t s c h)
+    ∙ none_to n c (ends l t s) (not_ending l t s c h)
 
 pub sends_none : (l : Limits) (e : Entry) (s : State) (n c : ℕ) → is_live (s.standing c) ≡ false
     → sent_to n c (sends l e s) ≡ []
 sends_none l (Admit id) s n c h = refl
 sends_none l (Run id words moment) s n c h =
     let t = run_action id words moment s in
-    action_sends_none (is_overgrown l t s) l t s n c h
+    action_sends_none l t s n c h
 sends_none l (Tick moment) s n c h =
-    action_sends_none (is_overgrown l (tick_action moment s) s) l (tick_action moment s) s n c h
+    action_sends_none l (tick_action moment s) s n c h
 sends_none l (Take id max) s n c h = refl
 sends_none l (Close id) s n c h = grind (arith, eqb-true)
 
@@ -166,17 +179,17 @@ one_end test n c (suc k) h =
       | false ↦ λ h. one_end test n c k h
     ] h
 
-action_ends_with : (o : ℕ → Bool) (l : Limits) (t : Action) (s : State) (n c : ℕ) → gone s c ≡ false
-    → gone (action_leaves o l t s) c ≡ true → EndsWith n (sent_to n c (action_sends o l t s))
-action_ends_with o l t s n c live ended =
+action_ends_with : (l : Limits) (t : Action) (s : State) (n c : ℕ) → gone s c ≡ false
+    → gone (action_leaves l t s) c ≡ true → EndsWith n (sent_to n c (action_sends l t s))
+action_ends_with l t s n c live ended =
     record {
       before = sent_to n c (messages l t s);
       none = sent_none n c (messages l t s) (messages_none l t s);
-      is = sent_to-append n c (messages l t s) (map (λ id. (id, End)) (ends o t s))
+      is = sent_to-append n c (messages l t s) (map (λ id. (id, End)) (ends l t s))
           ∙ ap (λ x. sent_to n c (messages l t s) ++ x)
-          (one_end (is_ending o t s) n c s.admitted
-          (right (gone s c) (has_id c (ends o t s)) live
-          (ap (λ b. gone s c || b) (sym (action_end o l t s n c)) ∙ sym (action_gone o l t s n c)
+          (one_end (is_ending l t s) n c s.admitted
+          (right (gone s c) (has_id c (ends l t s)) live
+          (ap (λ b. gone s c || b) (sym (action_end l t s n c)) ∙ sym (action_gone l t s n c)
           ∙ ended)));
     }
   where
@@ -188,10 +201,10 @@ ends_with : (l : Limits) (e : Entry) (s : State) (n c : ℕ) → gone s c ≡ fa
 ends_with l (Admit id) s n c live ended = absurd (let no : ⊥ = cc in no)
 ends_with l (Run id words moment) s n c live ended =
     let t = run_action id words moment s in
-    action_ends_with (is_overgrown l t s) l t s n c live ended
+    action_ends_with l t s n c live ended
 ends_with l (Tick moment) s n c live ended =
     let t = tick_action moment s in
-    action_ends_with (is_overgrown l t s) l t s n c live ended
+    action_ends_with l t s n c live ended
 ends_with l (Take id max) s n c live ended = absurd (let no : ⊥ = cc in no)
 ends_with l (Close id) s n c live ended = closed_with l id s n c live ended
   where

@@ -1,5 +1,5 @@
 -- In every history the connections of each registered prefix ascend.
-use Rattle.std.proofs.Common.{ℕ, List, [], ◌∷◌, Bool, true, false, cond}
+use Rattle.std.proofs.Common.{ℕ, List, [], ◌∷◌, true, false, cond}
 use Rattle.std.specs.Ordering.{match_ordering}
 use Rattle.std.specs.declared.cmp.Ordering.TheVariants.{Less, Equal, Greater}
 use Rattle.id_set.specs.Ids.{Ascend}
@@ -14,7 +14,7 @@ use Rattle.serial_model.specs.Each.{AllIn}
 use Rattle.serial_model.specs.Modes.{Memory, Remembers, Registers, Forgets}
 use Rattle.serial_model.specs.State.{State, for_each}
 use Rattle.serial_model.specs.Tracking.{registering}
-use Rattle.serial_model.specs.Actions.{Action, action_leaves, ends, is_overgrown}
+use Rattle.serial_model.specs.Actions.{Action, action_leaves, ends}
 use Rattle.serial_model.specs.History.{run_action, state, tick_action}
 
 abbrev pub AllAscend : List Registration → Type 0
@@ -59,10 +59,10 @@ registering_ascend id (Remembers keys) rows h = h
 registering_ascend id (Registers ps) rows h = with_prefixes_ascend id ps rows h
 registering_ascend id Forgets rows h = left_ascend id rows h
 
-action_ascends : (o : ℕ → Bool) (l : Limits) (t : Action) (s : State) → AllAscend s.prefixes
-    → AllAscend (action_leaves o l t s).prefixes
-action_ascends o l t s h =
-    each_left_ascend (ends o t s) (registering t.by t.effect.memory s.prefixes)
+action_ascends : (l : Limits) (t : Action) (s : State) → AllAscend s.prefixes
+    → AllAscend (action_leaves l t s).prefixes
+action_ascends l t s h =
+    each_left_ascend (ends l t s) (registering t.by t.effect.memory s.prefixes)
     (registering_ascend t.by t.effect.memory s.prefixes h)
 
 pub prefixes_ascend : (l : Limits) (past : List Entry) → AllAscend (state l past).prefixes
@@ -72,11 +72,11 @@ prefixes_ascend l (Admit id ∷ past) = prefixes_ascend l past
 prefixes_ascend l (Run id words moment ∷ past) =
     let s = state l past in
     let t = run_action id words moment s in
-    action_ascends (is_overgrown l t s) l t s (prefixes_ascend l past)
+    action_ascends l t s (prefixes_ascend l past)
 prefixes_ascend l (Tick moment ∷ past) =
     let s = state l past in
     let t = tick_action moment s in
-    action_ascends (is_overgrown l t s) l t s (prefixes_ascend l past)
+    action_ascends l t s (prefixes_ascend l past)
 prefixes_ascend l (Take id max ∷ past) = prefixes_ascend l past
 prefixes_ascend l (Close id ∷ past) =
     left_ascend id (state l past).prefixes (prefixes_ascend l past)

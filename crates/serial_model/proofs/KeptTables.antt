@@ -16,7 +16,7 @@ use Rattle.serial_model.specs.State.{for_each}
 use Rattle.serial_model.specs.Tracking.{without_signalled, remembering}
 use Rattle.serial_model.specs.History.{state, table, table_then, table_grown, expired, signals}
 use Rattle.serial_model.specs.History.{made}
-use Rattle.serial_model.proofs.StateSteps.{run_ends, tick_table}
+use Rattle.serial_model.proofs.StateSteps.{run_ends, tick_ends, tick_table}
 
 none : IsTable []
 none = record { ordered = tt; held = tt }
@@ -71,7 +71,8 @@ module _ (l : Limits) where
       (grown_from past id words moment (is_table past)))
   is_table (Tick moment ∷ past) =
       subst IsTable (sym (tick_table l past moment))
-      (table_without_keys (expired l past moment) (table l past) (is_table past))
+      (table_left (tick_ends l moment (state l past)) (table_then l past moment)
+      (table_without_keys (expired l past moment) (table l past) (is_table past)))
   is_table (Take id max ∷ past) = is_table past
   is_table (Close id ∷ past) = table_without_connection id (table l past) (is_table past)
 

@@ -12,6 +12,7 @@ pub mod Ends
 pub mod Fresh
 pub mod Streams
 pub mod Standings
+pub mod DropLaws
 pub mod Posts
 pub mod ModeSteps
 pub mod Marks
@@ -31,6 +32,7 @@ pub mod BeforeReply
 pub mod ActionSends
 pub mod Quiet
 pub mod Notices
+pub mod Redirected
 pub mod Broken
 pub mod Resets
 pub mod PrefixGroups

@@ -96,9 +96,9 @@ action_to l t s a own reply =
     (rows_then t s) s.prefixes
     (ids_all P (tracks s) s.admitted
     (λ h some le e. is_from s h (and_parts _ (is_on s h) e).1))
-    (then_live (λ c. false) l t s a own) a.of_prefixes)
+    (then_live l t s a own) a.of_prefixes)
     (drop_group_all P _ (dropped_all P l.table_max (rows_grown t s)
-    (grown_live (λ c. false) l t s a own))))))
+    (grown_live l t s a own))))))
 
 -- also where the entry's moment is not after those before it
 pub run_live : (l : Limits) (past : List Entry) (id : ℕ) (words : List (List ℕ)) (moment : ℕ)
@@ -121,7 +121,7 @@ tick_live l past moment legal =
 
 pub messages_are_live : MessagesAreLive
 messages_are_live l (Run id words moment) past h = run_live l past id words moment h.2 h.0
-messages_are_live l (Tick moment) past h = tick_live l past moment h.2
+messages_are_live l (Tick moment) past h = tick_live l past moment h.3
 messages_are_live l (Admit id) past h = tt
 messages_are_live l (Take id max) past h = tt
 messages_are_live l (Close id) past h = tt

@@ -16,7 +16,7 @@ use Rattle.serial_model.specs.State.{State, is_live, is_on, at, for_each, closed
 use Rattle.serial_model.specs.Tracking.{has_id, remembering, registering}
 use Rattle.serial_model.specs.Actions.{Action, action_leaves, rows_grown, rows_then, ends}
 use Rattle.serial_model.specs.Actions.{standing_after}
-use Rattle.serial_model.specs.Actions.{quits, is_overgrown}
+use Rattle.serial_model.specs.Actions.{quits}
 use Rattle.serial_model.specs.Each.{AllRows, AllRegistered}
 use Rattle.serial_model.specs.History.{admitted, is_admitted, state, table, run_action, tick_action}
 use Rattle.serial_model.specs.History.{IsLegal}
@@ -79,7 +79,7 @@ pub record Adds (P : ℕ → Type 0) (t : Action) : Type 0 where
   pub prefixes : (rows : List Registration) → AllRegistered P rows
       → AllRegistered P (registering t.by t.effect.memory rows)
 
-module _ (o : ℕ → Bool) (l : Limits) (t : Action) (s : State) (a : AreLive s)
+module _ (l : Limits) (t : Action) (s : State) (a : AreLive s)
     (own : Adds (Is s.standing s.admitted) t) where
   abbrev On : ℕ → Type 0
   On h = Is s.standing s.admitted h
@@ -91,23 +91,23 @@ module _ (o : ℕ → Bool) (l : Limits) (t : Action) (s : State) (a : AreLive s
   grown_live =
       own.keys _ (without_signalled_all On t.effect.signalled (rows_then t s) then_live)
 
-  still : (h : ℕ) → On h × Apart (ends o t s) h → Is (standing_after o t s) s.admitted h
+  still : (h : ℕ) → On h × Apart (ends l t s) h → Is (standing_after l t s) s.admitted h
   still h x =
-      (x.0.0, x.0.1, stays (has_id h (ends o t s)) (quits t h) (s.standing h) Quit Gone x.1 x.0.2)
+      (x.0.0, x.0.1, stays (has_id h (ends l t s)) (quits t h) (s.standing h) Quit Gone x.1 x.0.2)
 
-  pub action_live : AreLive (action_leaves o l t s)
+  pub action_live : AreLive (action_leaves l t s)
   action_live =
       record {
-        of_keys = all_rows {P = λ h. On h × Apart (ends o t s) h}
-            {Q = Is (standing_after o t s) s.admitted} still
-            (for_each without_connection (ends o t s) (kept l.table_max (rows_grown t s)))
-            (each_apart On (ends o t s) (kept l.table_max (rows_grown t s))
+        of_keys = all_rows {P = λ h. On h × Apart (ends l t s) h}
+            {Q = Is (standing_after l t s) s.admitted} still
+            (for_each without_connection (ends l t s) (kept l.table_max (rows_grown t s)))
+            (each_apart On (ends l t s) (kept l.table_max (rows_grown t s))
             (kept_all On l.table_max (rows_grown t s) grown_live));
-        of_prefixes = all_registered {P = λ h. On h × Apart (ends o t s) h}
-            {Q = Is (standing_after o t s) s.admitted} still
-            (for_each registrations.without_connection (ends o t s)
+        of_prefixes = all_registered {P = λ h. On h × Apart (ends l t s) h}
+            {Q = Is (standing_after l t s) s.admitted} still
+            (for_each registrations.without_connection (ends l t s)
             (registering t.by t.effect.memory s.prefixes))
-            (each_unregistered On (ends o t s) (registering t.by t.effect.memory s.prefixes)
+            (each_unregistered On (ends l t s) (registering t.by t.effect.memory s.prefixes)
             (own.prefixes s.prefixes a.of_prefixes));
       }
 
@@ -143,7 +143,7 @@ unfolding state
 all_live l [] h = record { of_keys = tt; of_prefixes = tt }
 all_live l (Admit id ∷ past) h =
     let s = state l past in
-    let a = all_live l past h.1 in
+    let a = all_live l past h.2 in
     record {
       of_keys = all_rows {P = Is s.standing s.admitted} {Q = Is s.standing (s.admitted + 1)}
           (more s) s.table a.of_keys;
@@ -153,12 +153,12 @@ all_live l (Admit id ∷ past) h =
 all_live l (Run id words moment ∷ past) h =
     let s = state l past in
     let t = run_action id words moment s in
-    action_live (is_overgrown l t s) l t s (all_live l past h.2)
+    action_live l t s (all_live l past h.2)
     (run_adds s id words moment (on_is l past id ∙ h.0))
 all_live l (Tick moment ∷ past) h =
     let s = state l past in
     let t = tick_action moment s in
-    action_live (is_overgrown l t s) l t s (all_live l past h.2) (tick_adds s moment)
+    action_live l t s (all_live l past h.3) (tick_adds s moment)
 all_live l (Take id max ∷ past) h = all_live l past h.2
 all_live l (Close id ∷ past) h =
     let s = state l past in

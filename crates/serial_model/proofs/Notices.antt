@@ -20,7 +20,7 @@ use Rattle.serial_model.specs.declared.history.Entry.TheVariants.{Run, Tick}
 use Rattle.serial_model.specs.State.{State, is_on}
 use Rattle.serial_model.specs.Tracking.{Invalidation, tells, names_key}
 use Rattle.serial_model.specs.Actions.{Sending, Message, End, Action, action_sends, all_messages}
-use Rattle.serial_model.specs.Actions.{carried, ends, expiry_told, is_overgrown, later_told}
+use Rattle.serial_model.specs.Actions.{carried, ends, expiry_told, later_told}
 use Rattle.serial_model.specs.Actions.{messages, modes_then, peer_at, replies, routed, way}
 use Rattle.serial_model.specs.History.{action_told, run_action, sent_to, state, tick_action}
 use Rattle.serial_model.specs.Laws.{BrokenIsTold, IsSentAmong, RedirectsTo}
@@ -112,15 +112,15 @@ module _ (l : Limits) (past : List Entry) (c target : ℕ) (key : List ℕ)
   abbrev notice : Sending
   notice = Message Three (notice_of target)
 
-  action_noticed : (o : ℕ → Bool) (t : Action)
+  action_noticed : (t : Action)
       → routed (modes_then t s) (is_on s) (later_told l t s)
       ≡ routed s.modes (is_on s) (later_told l t s)
       → list_any (tells c key) (action_told l t s) ≡ true
-      → IsSentAmong notice n (sent_to n c (action_sends o l t s))
-  action_noticed o t same due =
+      → IsSentAmong notice n (sent_to n c (action_sends l t s))
+  action_noticed t same due =
       let first = routed s.modes (is_on s) (expiry_told t s) in
       let last = routed s.modes (is_on s) (later_told l t s) in
-      among_before n c notice (messages l t s) (map (λ c. (c, End)) (ends o t s))
+      among_before n c notice (messages l t s) (map (λ c. (c, End)) (ends l t s))
       (rw (heard_all n c s (all_messages l t s) on)
       (rw same
       (elim (or_cases _ _
@@ -136,12 +136,12 @@ pub broken_is_told : BrokenIsTold
 broken_is_told l (Run id words m) past c target key on to gone due =
     let s = state l past in
     let t = run_action id words m s in
-    action_noticed l past c target key (on_is l past c ∙ on) to gone (is_overgrown l t s) t
+    action_noticed l past c target key (on_is l past c ∙ on) to gone t
     (later_routed l past id words m) due
 broken_is_told l (Tick m) past c target key on to gone due =
     let s = state l past in
     let t = tick_action m s in
-    action_noticed l past c target key (on_is l past c ∙ on) to gone (is_overgrown l t s) t
+    action_noticed l past c target key (on_is l past c ∙ on) to gone t
     (ap (routed (modes_then t s) (is_on s)) (tick_none l past m)
     ∙ ap (routed s.modes (is_on s)) (sym (tick_none l past m))) due
 broken_is_told l e past c target key on to gone due = absurd (let no : ⊥ = cc in no)

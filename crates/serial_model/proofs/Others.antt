@@ -50,15 +50,16 @@ module _ (l : Limits) (c : ℕ) where
   pub others_extend : (past : List Entry) (call : BookCall) → IsOther c call
       → Extends l c past (book_step l past call).past
   others_extend past Admit other =
-      by_admit l past (Grown past) (extends_entry past (entry.Admit (admitted past + 1))
+      by_admit l past (Grown past) (extends_none past)
+      (λ on. extends_entry past (entry.Admit (admitted past + 1))
       (grind (arith, nat_tests)) refl refl)
   others_extend past (Run id words now) other =
       by_run l past (Grown past) id words now (extends_none past)
       (λ on. extends_entry past (entry.Run id words (max now (latest past))) (λ h. h) refl
       (ap (λ b. cond b (runs_of c past ++ words ∷ []) (runs_of c past)) other))
   others_extend past (Tick now) other =
-      by_tick l past (Grown past) now (extends_none past)
-      (λ some. extends_entry past (entry.Tick (max now (latest past))) (λ h. h) refl refl)
+      by_tick l past (Grown past) now (extends_none past) (extends_none past)
+      (λ on some. extends_entry past (entry.Tick (max now (latest past))) (λ h. h) refl refl)
   others_extend past (Take id most) other =
       by_take l past (Grown past) id most (extends_none past) (extends_none past)
       (λ on some. extends_entry past (entry.Take id most) (λ h. h) (grind arith) refl)

@@ -1,14 +1,14 @@
 -- A remembered read is owed or told, and being told ends for a cause.
 use Rattle.std.proofs.Common.{◌≡◌, ◌-◌, ℕ, List, [], ◌∷◌, Bool, true, false, cond, length, drop}
 use Rattle.std.proofs.Common.{◌+◌}
-use Rattle.std.proofs.Common.{refl, sym, ap, ◌∙◌, arith, inl, inr, Result}
+use Rattle.std.proofs.Common.{sym, ap, ◌∙◌, arith, inl, inr, Result}
 use Rattle.std.specs.Prelude.{◌==◌, ◌&&◌, ◌||◌, not, nat_eq, nat_lt, nat_le}
 use Rattle.std.specs.List.{starts_with}
 use Rattle.std.specs.Ordering.{match_ordering}
 use Rattle.std.specs.declared.cmp.Ordering.{Ordering}
 use Rattle.std.specs.declared.cmp.Ordering.TheVariants.{Less, Equal, Greater}
 use Rattle.std.proofs.lemmas.Bool.{and_parts, and_from, or_left, or_right, or_cases, or_parts}
-use Rattle.std.proofs.lemmas.Bool.{both_ways, cases_Bool, eq-eqb}
+use Rattle.std.proofs.lemmas.Bool.{both_ways, cases_Bool}
 use Rattle.std.proofs.lemmas.Bool.Decides.{nat_tests}
 use Rattle.std.proofs.lemmas.List.Folds.{list_any-append}
 use Rattle.command_words.specs.declared.command.Command.{Command}
@@ -36,12 +36,12 @@ use Rattle.serial_model.specs.State.{State, is_live, is_on, closed, for_each}
 use Rattle.serial_model.specs.Tracking.{has_id, remembering, registering, tells}
 use Rattle.serial_model.specs.Tracking.{without_signalled}
 use Rattle.serial_model.specs.Actions.{Action, ends, action_leaves, rows_then, rows_grown}
-use Rattle.serial_model.specs.Actions.{quits, is_overgrown, expiry_told, own_told, later_told}
+use Rattle.serial_model.specs.Actions.{quits, expiry_told, own_told, later_told}
 use Rattle.serial_model.specs.Actions.{drops_told}
 use Rattle.serial_model.specs.History.{state, next, run_action, tick_action, mode, made, made_of}
 use Rattle.serial_model.specs.History.{runner}
 use Rattle.serial_model.specs.History.{IsLegal, served, table_grown, has_ended}
-use Rattle.serial_model.specs.History.{is_admitted, is_quit, runs_on, table_then}
+use Rattle.serial_model.specs.History.{is_admitted, runs_on, table_then}
 use Rattle.serial_model.specs.Laws.{is_among, is_forgets, has_prefix_of, is_told_in, is_told}
 use Rattle.serial_model.specs.Laws.{is_due}
 use Rattle.serial_model.specs.Laws.{drops_key, signals_key, stops_tracking, ReadIsOwedOrTold}
@@ -52,9 +52,19 @@ use Rattle.serial_model.proofs.KeyHolders.{remembered_own, drop_tells, dropped_o
 use Rattle.serial_model.proofs.KeyHolders.{without_other}
 use Rattle.serial_model.proofs.KeyHolders.{with_keeps, without_keeps, some_held}
 use Rattle.serial_model.proofs.ServedRows.{none_barred, served_is}
-use Rattle.serial_model.proofs.StateSteps.{run_ended, run_stands, run_table_stays}
 use Rattle.serial_model.proofs.TableSize.{none_dropped, then_within}
 use Rattle.serial_model.proofs.ToldLaws.{has_row}
+
+-- ---- a holder stays where others leave
+
+module _ (c : ℕ) (key : List ℕ) where
+  each_left_keeps : (ids : List ℕ) (rows : List Held) → has_id c ids ≡ false
+      → has_id c (holders_of key rows) ≡ true
+      → has_id c (holders_of key (for_each without_connection ids rows)) ≡ true
+  each_left_keeps [] rows apart h = h
+  each_left_keeps (id ∷ ids) rows apart h =
+      let p = or_parts (id == c) (has_id c ids) apart in
+      each_left_keeps ids (without_connection id rows) p.1 (without_other c key id rows p.0 h)
 
 -- ---- a remembered read is owed or told
 
@@ -79,28 +89,33 @@ read_remembers l past c m words key cacheable free tracks is =
     (sym (served_is (reading words) cacheable)) ∙ cacheable))
     ∙ ap (λ k. Remembers (k ∷ [])) is
 
-owed : (on after stays prefix due ended : Bool) → on ≡ true → after ≡ stays
+owed : (on after stays prefix due ended : Bool) → on ≡ true → (stays ≡ true → after ≡ true)
     → (stays ≡ false → due ≡ true)
     → (((on && (after || prefix)) || due) || ended) ≡ true
 owed on after stays prefix due ended e f g = grind arith
 
+live_after : (h q : Bool) (x : Standing) → not (is_live (cond h (cond q Quit Gone) x)) ≡ false
+    → h ≡ false
+live_after h q x e = grind arith
+
 -- where its connection goes on
 grown_stays : (l : Limits) (c m : ℕ) (words : List (List ℕ)) (past : List Entry) (key : List ℕ)
-    → runs_on l past c ≡ true → is_quit words ≡ false
+    → runs_on l past c ≡ true → has_ended l c (Run c words m ∷ past) ≡ false
     → has_id c (holders_of key (table_grown l past c words m)) ≡ true
     → (is_told l (Run c words m ∷ past) c key || is_due l (Run c words m) past c key
     || has_ended l c (Run c words m ∷ past)) ≡ true
-grown_stays l c m words past key on stays holds =
+unfolding state
+grown_stays l c m words past key on live holds =
     let s = state l past in
     let t = run_action c words m s in
     let grown = rows_grown t s in
     let n = length grown - l.table_max in
+    let apart = live_after (has_id c (ends l t s)) (quits t c) (s.standing c) live in
     owed (is_on (state l (Run c words m ∷ past)) c) _ (has_id c (holders_of key (drop n grown))) _ _
     _
     (on_is l (Run c words m ∷ past) c
-    ∙ ap (λ x. is_admitted past c && not (not (is_live x))) (run_stands l past c c m words stays)
-    ∙ on)
-    (ap (λ rs. has_id c (holders_of key rs)) (run_table_stays l past c m words stays))
+    ∙ and_from _ _ (and_parts (is_admitted past c) _ on).0 (ap not live))
+    (each_left_keeps c key (ends l t s) (kept l.table_max grown) apart)
     (λ gone. list_any-append (tells c key) (expiry_told t s) (later_told l t s)
     ∙ or_right _ _ (list_any-append (tells c key) (own_told t s) (drops_told l t s)
     ∙ or_right _ _ (drop_tells c key n grown holds
@@ -115,12 +130,11 @@ pub grown_is_owed : (l : Limits) (c m : ℕ) (words : List (List ℕ)) (past : L
     → has_id c (holders_of key (table_grown l past c words m)) ≡ true
     → (is_told l (Run c words m ∷ past) c key || is_due l (Run c words m) past c key
     || has_ended l c (Run c words m ∷ past)) ≡ true
-grown_is_owed l c m words past key legal holds = elim (cases_Bool (is_quit words)) [
-  | inl does ↦ or_right _ _
-      (run_ended l past c c m words legal.0
-      ∙ or_right _ _ (and_from _ _ (eq-eqb c c refl) does))
-  | inr stays ↦ grown_stays l c m words past key legal.0 stays holds
-]
+grown_is_owed l c m words past key legal holds =
+    elim (cases_Bool (has_ended l c (Run c words m ∷ past))) [
+      | inl ended ↦ or_right _ _ ended
+      | inr live ↦ grown_stays l c m words past key legal.0 live holds
+    ]
 
 pub read_is_owed_or_told : ReadIsOwedOrTold
 read_is_owed_or_told l c m words past key legal cacheable free tracks is =
@@ -211,19 +225,7 @@ module _ (c : ℕ) (key : List ℕ) where
       each_unregistered_keeps ids (registrations.without_connection id rows) p.1
       (unregistered_keeps id rows p.0 h)
 
-  each_left_keeps : (ids : List ℕ) (rows : List Held) → has_id c ids ≡ false
-      → has_id c (holders_of key rows) ≡ true
-      → has_id c (holders_of key (for_each without_connection ids rows)) ≡ true
-  each_left_keeps [] rows apart h = h
-  each_left_keeps (id ∷ ids) rows apart h =
-      let p = or_parts (id == c) (has_id c ids) apart in
-      each_left_keeps ids (without_connection id rows) p.1 (without_other c key id rows p.0 h)
-
 -- ---- being told ends for a cause
-
-live_after : (h q : Bool) (x : Standing) → not (is_live (cond h (cond q Quit Gone) x)) ≡ false
-    → h ≡ false
-live_after h q x e = grind arith
 
 either_way : (a b x y : Bool) → (a ≡ true → x ≡ true) → (b ≡ true → y ≡ true) → (a || b) ≡ true
     → (x || y) ≡ true
@@ -232,29 +234,29 @@ either_way a b x y f g h = grind (arith, or_cases)
 right : (x y : Bool) → (x || y) ≡ true → x ≡ false → y ≡ true
 right x y e f = grind arith
 
-module _ (o : ℕ → Bool) (l : Limits) (t : Action) (s : State) (c : ℕ) (key : List ℕ)
+module _ (l : Limits) (t : Action) (s : State) (c : ℕ) (key : List ℕ)
     (told : is_told_in s c key ≡ true) where
   action_stays : (is_among t.expired key || signals t.effect.signalled key) ≡ false
       → has_row (dropped l.table_max (rows_grown t s)) key ≡ false
       → ((t.by == c) && is_forgets t.effect.memory) ≡ false
-      → not (is_live ((action_leaves o l t s).standing c)) ≡ false
-      → is_told_in (action_leaves o l t s) c key ≡ true
+      → not (is_live ((action_leaves l t s).standing c)) ≡ false
+      → is_told_in (action_leaves l t s) c key ≡ true
   action_stays quiet none stays live =
       let p = and_parts (is_on s c) _ told in
       let q = or_parts (is_among t.expired key) (signals t.effect.signalled key) quiet in
-      let apart = live_after (has_id c (ends o t s)) (quits t c) (s.standing c) live in
+      let apart = live_after (has_id c (ends l t s)) (quits t c) (s.standing c) live in
       let rows = without_signalled t.effect.signalled (rows_then t s) in
       let n = length (rows_grown t s) - l.table_max in
       and_from _ _
       (ap (λ b. (nat_lt 0 c && nat_le c s.admitted) && is_live (cond b (cond (quits t c) Quit Gone)
       (s.standing c))) apart ∙ p.0)
       (either_way _ _ _ _
-      (λ h. each_left_keeps c key (ends o t s) (kept l.table_max (rows_grown t s)) apart
+      (λ h. each_left_keeps c key (ends l t s) (kept l.table_max (rows_grown t s)) apart
       (right _ _ (dropped_or_kept c key n (rows_grown t s)
       (remembering_keeps c key t.by t.effect.memory rows stays
       (ap (has_id c) (signalled_apart c key t.effect.signalled (rows_then t s) q.1
       ∙ keys_apart c key t.expired s.table q.0) ∙ h))) none))
-      (λ h. each_unregistered_keeps c key (ends o t s)
+      (λ h. each_unregistered_keeps c key (ends l t s)
       (registering t.by t.effect.memory s.prefixes) apart
       (registering_keeps c key t.by t.effect.memory s.prefixes stays h))
       p.1)
@@ -302,13 +304,13 @@ told_ends_for_cause l (Run id words m) past c key told gone =
     cause (signals_key l (Run id words m) past key) (drops_key l (Run id words m) past key)
     (stops_tracking l (Run id words m) past c) (has_ended l c (Run id words m ∷ past))
     (λ e f g h. both_ways _ gone
-    (action_stays (is_overgrown l t s) l t s c key told e f g h))
+    (action_stays l t s c key told e f g h))
 told_ends_for_cause l (Tick m) past c key told gone =
     let s = state l past in
     let t = tick_action m s in
     cause (signals_key l (Tick m) past key) false false (has_ended l c (Tick m ∷ past))
     (λ e f g h. both_ways _ gone
-    (action_stays (is_overgrown l t s) l t s c key told (or_false _ e)
+    (action_stays l t s c key told (or_false _ e)
     (ap (λ rows. has_row rows key)
     (none_dropped l.table_max (table_then l past m) (then_within l past m))) (off _) h))
 told_ends_for_cause l (Take id max) past c key told gone = absurd (both_ways _ gone told)

@@ -10,6 +10,7 @@ use Rattle.command_words.specs.declared.command.Command.TheVariants.{ClientId, C
 use Rattle.command_words.specs.declared.command.Command.TheVariants.{ClientCaching, ClientGetRedir}
 use Rattle.command_words.specs.declared.command.Command.TheVariants.{ClientTrackingInfo}
 use Rattle.command_words.specs.declared.command.Command.TheVariants.{Subscribe, Unsubscribe}
+use Rattle.command_words.specs.declared.command.Command.TheVariants.{Shutdown}
 use Rattle.command_words.specs.declared.command.TrackOptions.{TrackOptions}
 use Rattle.command_words.specs.declared.command.WordFault.{WordFault}
 use Rattle.command_words.specs.Effects.{has_row}
@@ -109,6 +110,7 @@ module _ (key : List ℕ) where
   changed_own (Hello (Some word)) exists m is none free = refl
   changed_own Reset exists m is none free = refl
   changed_own Quit exists m is none free = refl
+  changed_own (Shutdown mode) exists m is none free = refl
   changed_own ClientId exists m is none free = refl
   changed_own (ClientTracking o) exists m is none free = tracking_own o exists m o.on refl free
   changed_own (ClientCaching is_yes) exists m is none free = refl

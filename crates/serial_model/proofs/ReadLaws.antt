@@ -8,11 +8,12 @@ use Rattle.command_words.specs.Queries.{reads_as_cacheable, key_of}
 use Rattle.command_words.specs.Space.{Space, held_at}
 use Rattle.command_words.specs.Words.{reading}
 use Rattle.serial_model.specs.declared.history.Entry.TheVariants.{Admit, Run, Tick, Take, Close}
-use Rattle.serial_model.specs.Modes.{Runner, is_confined}
-use Rattle.serial_model.specs.History.{state, keyspace, ran_over, ran, runner, served_reading}
+use Rattle.serial_model.specs.Modes.{Runner, is_confined, is_stopping}
+use Rattle.serial_model.specs.History.{state, keyspace, mode, ran_over, ran, runner}
+use Rattle.serial_model.specs.History.{served_reading}
 use Rattle.serial_model.specs.Laws.{ChangeIsSignalled, ReadReplies}
 use Rattle.serial_model.proofs.DueKeys.{due_is_past}
-use Rattle.serial_model.proofs.ServedRows.{served_is, query_effect, none_barred, none_stops}
+use Rattle.serial_model.proofs.ServedRows.{served_is, query_effect, none_barred, query_stays}
 use Rattle.serial_model.proofs.EntryLaws.{held_same}
 use Rattle.serial_model.proofs.QueryKeys.{answers_alike}
 
@@ -48,5 +49,6 @@ read_ran space by words moment h free =
 pub read_replies : ReadReplies
 unfolding state
 read_replies l id moment words past h free =
-    ap (λ b. cond b None (Some (ran l past id words moment).reply)) (none_stops (reading words))
+    ap (λ e. cond (is_stopping e) None (Some (ran l past id words moment).reply))
+    (query_stays (mode l id past) (served_reading words) h)
     ∙ ap (λ v. Some v) (read_ran _ (runner l past id words moment) words moment h free)

@@ -22,7 +22,7 @@ use Rattle.serial_model.specs.declared.standing.Standing.TheVariants.{Quit, Gone
 use Rattle.serial_model.specs.Modes.{Memory, Remembers, Registers, Forgets}
 use Rattle.serial_model.specs.State.{State, closed, for_each, is_live, is_on}
 use Rattle.serial_model.specs.Tracking.{has_id, registering}
-use Rattle.serial_model.specs.Actions.{Action, action_leaves, ends, is_overgrown, modes_then, quits}
+use Rattle.serial_model.specs.Actions.{Action, action_leaves, ends, modes_then, quits}
 use Rattle.serial_model.specs.History.{admitted, IsLegal, mode, runner_in, run_action, state}
 use Rattle.serial_model.specs.History.{tick_action}
 use Rattle.serial_model.specs.Laws.{RegisteredIsMode, covers_key, has_prefix_of}
@@ -210,13 +210,13 @@ module _ (c : ℕ) (key : List ℕ) where
   both_off : (e o x : Bool) → (not e && (o && x)) ≡ ((not e && o) && x)
   both_off e o x = grind arith
 
-  module _ (o : ℕ → Bool) (l : Limits) (t : Action) (s : State) where
+  module _ (l : Limits) (t : Action) (s : State) where
     action_is : (m : ModeState)
         → any (registering t.by t.effect.memory s.prefixes) ≡ (is_on s c && covers m)
-        → any (action_leaves o l t s).prefixes ≡ (is_on (action_leaves o l t s) c && covers m)
+        → any (action_leaves l t s).prefixes ≡ (is_on (action_leaves l t s) c && covers m)
     action_is m h =
-        let e = has_id c (ends o t s) in
-        each_left (ends o t s) (registering t.by t.effect.memory s.prefixes)
+        let e = has_id c (ends l t s) in
+        each_left (ends l t s) (registering t.by t.effect.memory s.prefixes)
         ∙ ap (λ b. not e && b) h
         ∙ both_off e (is_on s c) (covers m)
         ∙ ap (λ b. b && covers m)
@@ -304,18 +304,18 @@ pub registered_is_mode : RegisteredIsMode
 unfolding state
 registered_is_mode l c [] key legal = sym (off _)
 registered_is_mode l c (Admit id ∷ past) key legal =
-    admitted_one c key l past legal.1 (registered_is_mode l c past key legal.1)
+    admitted_one c key l past legal.2 (registered_is_mode l c past key legal.2)
 registered_is_mode l c (Run id words m ∷ past) key legal =
     let s = state l past in
     let t = run_action id words m s in
-    action_is c key (is_overgrown l t s) l t s (modes_then t s c)
+    action_is c key l t s (modes_then t s c)
     (ran_by c key l past id m words (on_is l past id ∙ legal.0)
     (registered_is_mode l c past key legal.2))
 registered_is_mode l c (Tick m ∷ past) key legal =
     let s = state l past in
     let t = tick_action m s in
-    action_is c key (is_overgrown l t s) l t s (s.modes c)
-    (registered_is_mode l c past key legal.2)
+    action_is c key l t s (s.modes c)
+    (registered_is_mode l c past key legal.3)
     ∙ ap (λ b. is_on (state l (Tick m ∷ past)) c && covers_key b key) (sym (mode_tick l c m past))
 registered_is_mode l c (Take id max ∷ past) key legal =
     registered_is_mode l c past key legal.2

@@ -27,6 +27,7 @@ use Rattle.command_words.specs.Effect.{Effect, replied, wrote, wrong_type, not_i
 use Rattle.command_words.specs.Effect.{sum_in}
 use Rattle.command_words.specs.Effects.{effect, string_effect, hash_effect, key_effect, read_reply}
 use Rattle.command_words.specs.Effects.{answer_as, has_row}
+use Rattle.command_words.specs.Words.{reading}
 use Rattle.command_words.specs.Hashes.{Pairs, on_fields, put_fields, hset_row, hdel_row}
 use Rattle.command_words.specs.Hashes.{hincrby_row, set_all, remove_all, field_sum, field_set}
 use Rattle.command_words.specs.Keys.{there, remove_each, renamed, expiring, expire_effect}
@@ -40,12 +41,12 @@ use Rattle.command_words.proofs.KeysOnce.{any_left, any_once, left_false, right_
 use Rattle.track_modes.specs.ModeState.{ModeState, remembers_read}
 use Rattle.track_modes.specs.Commands.{fault_at, spent_mode}
 use Rattle.serial_model.specs.Modes.{Runner, Remembers, OwnEffect, own_effect, refused_effect}
-use Rattle.serial_model.specs.Modes.{Ending, Quits, Stays, ending_of, is_barred, is_confined}
-use Rattle.serial_model.specs.Modes.{is_quitting, is_stopping}
+use Rattle.serial_model.specs.Modes.{Stays, ending_of, is_barred, is_confined, is_quitting}
+use Rattle.serial_model.specs.Modes.{is_stopping}
 use Rattle.serial_model.specs.Tracking.{AreApart}
 use Rattle.serial_model.specs.History.{served, served_reading, is_served, effect_of, made_of}
-use Rattle.serial_model.specs.History.{ran_over}
-use Rattle.serial_model.specs.Laws.{is_among}
+use Rattle.serial_model.specs.History.{ran_over, ending_in, is_quit}
+use Rattle.serial_model.specs.Laws.{is_among, stops}
 
 -- ---- what is served
 
@@ -133,19 +134,32 @@ pub data_own : (c : Command) (by : Runner) → has_row c ≡ true
 unfolding fault_at
 data_own c by h = grind arith
 
--- nothing that is served stops the server: QUIT alone ends a connection
-pub none_stops : (r : Result Command WordFault) → is_stopping (ending_of (served r)) ≡ false
-none_stops =
-    served_cases (λ r. is_stopping (ending_of r) ≡ false) (λ c is none. grind arith)
-    (λ c row. grind arith) (λ f. refl)
+-- ---- how connections end
 
-quits_or_stays : (e : Ending) → is_stopping e ≡ false
-    → e ≡ (if is_quitting e then Quits else Stays)
-quits_or_stays e h = grind arith
+quitting : (m : ModeState) (r : Result Command WordFault)
+    → is_quitting (ending_in m r) ≡ is_quitting (ending_of r)
+quitting m r = grind arith
 
-pub only_quit_ends : (r : Result Command WordFault)
-    → ending_of (served r) ≡ (if is_quitting (ending_of (served r)) then Quits else Stays)
-only_quit_ends r = quits_or_stays (ending_of (served r)) (none_stops r)
+stopping : (m : ModeState) (r : Result Command WordFault)
+    → is_stopping (ending_in m (served r)) ≡ stops r m
+stopping m r = grind arith
+
+module _ (m : ModeState) (words : List (List ℕ)) where
+  -- every mode allows QUIT
+  pub quit_in : is_quitting (ending_in m (served_reading words)) ≡ is_quit words
+  quit_in = quitting m (served_reading words)
+
+  -- the words stop the server where they are a SHUTDOWN that the mode allows
+  pub stop_in : is_stopping (ending_in m (served_reading words)) ≡ stops (reading words) m
+  stop_in = stopping m (reading words)
+
+-- a data command ends no connection
+pub data_stays : (m : ModeState) (c : Command) → has_row c ≡ true → ending_in m (Ok c) ≡ Stays
+data_stays m c row = grind arith
+
+pub query_stays : (m : ModeState) (r : Result Command WordFault) → reads_as_cacheable r ≡ true
+    → ending_in m r ≡ Stays
+query_stays m r cacheable = grind arith
 
 -- ---- what a row does
 

@@ -9,12 +9,12 @@ use Rattle.serial_model.specs.declared.history.Entry.TheVariants.{Admit, Run, Ti
 use Rattle.serial_model.specs.declared.standing.Standing.{Standing}
 use Rattle.serial_model.specs.declared.standing.Standing.TheVariants.{Live, Quit, QuitClosed, Gone}
 use Rattle.serial_model.specs.State.{State, closed, is_live, keeps_bytes, may_take}
+use Rattle.serial_model.specs.EntryEffects.{drops_one}
 use Rattle.serial_model.specs.History.{gives_on, has_ended, is_admitted, reads_on, runs_on, state}
 use Rattle.serial_model.specs.History.{is_quit}
 use Rattle.serial_model.proofs.Ends.{ended_then}
-use Rattle.serial_model.proofs.StateSteps.{run_ended, run_stands, run_stands_other, tick_ended}
-use Rattle.serial_model.proofs.StateSteps.{tick_stands}
-use Rattle.serial_model.proofs.Streams.{keeps_run, takes_run}
+use Rattle.serial_model.proofs.StateSteps.{run_ended, tick_ended}
+use Rattle.serial_model.proofs.Streams.{keeps_run, keeps_tick, takes_run, takes_tick}
 
 closed_ended : (x : Standing) → not (is_live (closed x)) ≡ true
 closed_ended Live = refl
@@ -77,37 +77,12 @@ module _ (l : Limits) (past : List Entry) (c : ℕ) where
   unfolding state
   ended_admit id = refl
 
-  -- a Run ends its own connection where it quits
-  pub ended_run : (id moment : ℕ) (words : List (List ℕ)) → runs_on l past id ≡ true
-      → has_ended l c (Run id words moment ∷ past)
-      ≡ (has_ended l c past || ((id == c) && is_quit words))
-  ended_run id moment words on = run_ended l past c id moment words on
-
-  pub ended_run_other : (id moment : ℕ) (words : List (List ℕ)) → (id == c) ≡ false
-      → EndsNobody (Run id words moment)
-  ended_run_other id moment words other =
-      ap (λ x. not (is_live x)) (run_stands_other l past c id moment words other)
-
-  pub ended_run_stays : (id moment : ℕ) (words : List (List ℕ)) → is_quit words ≡ false
-      → EndsNobody (Run id words moment)
-  ended_run_stays id moment words stays =
-      ap (λ x. not (is_live x)) (run_stands l past c id moment words stays)
-
-  pub ended_tick : (moment : ℕ) → EndsNobody (Tick moment)
-  ended_tick moment = tick_ended l past c moment
-
   pub ended_take : (id max : ℕ) → EndsNobody (Take id max)
   unfolding state
   ended_take id max = refl
 
   -- where an entry neither admits nor ends a connection, it may do what it might
   module _ (e : Entry) (there : is_admitted (e ∷ past) c ≡ is_admitted past c) where
-    pub runs_same : has_ended l c (e ∷ past) ≡ has_ended l c past
-        → runs_on l (e ∷ past) c ≡ runs_on l past c
-    runs_same same =
-        ap (λ b. b && not (has_ended l c (e ∷ past))) there
-        ∙ ap (λ b. is_admitted past c && not b) same
-
     pub reads_same : keeps_bytes ((state l (e ∷ past)).standing c) ≡ keeps_bytes (now.standing c)
         → reads_on l (e ∷ past) c ≡ reads_on l past c
     reads_same same =
@@ -124,31 +99,47 @@ module _ (l : Limits) (past : List Entry) (c : ℕ) where
 
   pub runs_run : (id moment : ℕ) (words : List (List ℕ)) → runs_on l past id ≡ true
       → runs_on l (Run id words moment ∷ past) c
-      ≡ (runs_on l past c && not ((id == c) && is_quit words))
+      ≡ (runs_on l past c
+      && not (((id == c) && is_quit words) || drops_one l (Run id words moment) past c))
   runs_run id moment words on =
-      ap (λ b. is_admitted past c && not b) (ended_run id moment words on)
-      ∙ runs_over (is_admitted past c) (now.standing c) ((id == c) && is_quit words)
+      ap (λ b. is_admitted past c && not b) (run_ended l past c id moment words on)
+      ∙ runs_over (is_admitted past c) (now.standing c) _
 
-  -- also one that quits can be closed and may take
+  -- also one that quits can be closed and may take, but none that is dropped
   pub reads_run : (id moment : ℕ) (words : List (List ℕ))
-      → reads_on l (Run id words moment ∷ past) c ≡ reads_on l past c
+      → reads_on l (Run id words moment ∷ past) c
+      ≡ (reads_on l past c && not (drops_one l (Run id words moment) past c))
   reads_run id moment words =
-      reads_same (Run id words moment) refl (keeps_run l past c id moment words)
+      ap (λ b. is_admitted past c && b) (keeps_run l past c id moment words)
+      ∙ took_off (is_admitted past c) (keeps_bytes (now.standing c)) _
 
   pub gives_run : (id moment : ℕ) (words : List (List ℕ))
-      → gives_on l (Run id words moment ∷ past) c ≡ gives_on l past c
+      → gives_on l (Run id words moment ∷ past) c
+      ≡ (gives_on l past c && not (drops_one l (Run id words moment) past c))
   gives_run id moment words =
-      gives_same (Run id words moment) refl (takes_run l past c id moment words)
+      ap (λ b. is_admitted past c && b) (takes_run l past c id moment words)
+      ∙ took_off (is_admitted past c) (may_take (now.standing c)) _
 
-  pub runs_tick : (moment : ℕ) → runs_on l (Tick moment ∷ past) c ≡ runs_on l past c
-  runs_tick moment = runs_same (Tick moment) refl (ended_tick moment)
+  pub runs_tick : (moment : ℕ)
+      → runs_on l (Tick moment ∷ past) c
+      ≡ (runs_on l past c && not (drops_one l (Tick moment) past c))
+  runs_tick moment =
+      ap (λ b. is_admitted past c && not b) (tick_ended l past c moment)
+      ∙ runs_over (is_admitted past c) (now.standing c) _
 
-  pub reads_tick : (moment : ℕ) → reads_on l (Tick moment ∷ past) c ≡ reads_on l past c
+  pub reads_tick : (moment : ℕ)
+      → reads_on l (Tick moment ∷ past) c
+      ≡ (reads_on l past c && not (drops_one l (Tick moment) past c))
   reads_tick moment =
-      reads_same (Tick moment) refl (ap keeps_bytes (tick_stands l past c moment))
+      ap (λ b. is_admitted past c && b) (keeps_tick l past c moment)
+      ∙ took_off (is_admitted past c) (keeps_bytes (now.standing c)) _
 
-  pub gives_tick : (moment : ℕ) → gives_on l (Tick moment ∷ past) c ≡ gives_on l past c
-  gives_tick moment = gives_same (Tick moment) refl (ap may_take (tick_stands l past c moment))
+  pub gives_tick : (moment : ℕ)
+      → gives_on l (Tick moment ∷ past) c
+      ≡ (gives_on l past c && not (drops_one l (Tick moment) past c))
+  gives_tick moment =
+      ap (λ b. is_admitted past c && b) (takes_tick l past c moment)
+      ∙ took_off (is_admitted past c) (may_take (now.standing c)) _
 
   pub runs_take : (id max : ℕ) → runs_on l (Take id max ∷ past) c ≡ runs_on l past c
   unfolding state

@@ -1,9 +1,9 @@
--- What an entry leaves of each part of the state, while QUIT alone ends a connection that runs.
-use Rattle.std.proofs.Common.{◌≡◌, ◌<◌, ◌≤◌, ◌-◌, ℕ, zero, suc, List, [], ◌∷◌, ◌++◌, Bool, true}
-use Rattle.std.proofs.Common.{false, cond, inl, inr, subst}
-use Rattle.std.proofs.Common.{refl, sym, ap, ◌∙◌, arith, length, drop}
-use Rattle.std.specs.Prelude.{◌==◌, ◌&&◌, ◌||◌, not, if◌then◌else◌}
-use Rattle.std.proofs.lemmas.Bool.{cases_Bool, eqb-true, eq-eqb}
+-- What an entry leaves of each part of the state: whom a Run or a Tick ends, and how they stand
+-- then.
+use Rattle.std.proofs.Common.{◌≡◌, ◌<◌, ◌≤◌, ◌-◌, ℕ, List, [], ◌∷◌, Bool, true, false, cond, refl}
+use Rattle.std.proofs.Common.{sym, ap, ◌∙◌, arith, length, drop}
+use Rattle.std.specs.Prelude.{◌==◌, ◌&&◌, ◌||◌, not, filter}
+use Rattle.std.proofs.lemmas.Bool.{and_parts, eq-eqb, eqb-true}
 use Rattle.std.proofs.lemmas.Bool.Decides.{nat_tests}
 use Rattle.track_table.specs.declared.table.Held.{Held}
 use Rattle.track_table.specs.Table.{kept, without_connection}
@@ -11,209 +11,213 @@ use Rattle.serial_model.specs.declared.history.Limits.{Limits}
 use Rattle.serial_model.specs.declared.history.Entry.{Entry}
 use Rattle.serial_model.specs.declared.history.Entry.TheVariants.{Run, Tick}
 use Rattle.serial_model.specs.declared.standing.Standing.{Standing}
-use Rattle.serial_model.specs.declared.standing.Standing.TheVariants.{Live, Quit, Gone}
-use Rattle.command_words.specs.Words.{reading}
-use Rattle.serial_model.specs.Modes.{Ending, Stays, is_stopping, is_quitting}
+use Rattle.serial_model.specs.declared.standing.Standing.TheVariants.{Quit, Gone}
+use Rattle.serial_model.specs.Modes.{is_stopping}
 use Rattle.serial_model.specs.State.{State, is_live, is_on, for_each}
-use Rattle.serial_model.specs.Tracking.{ids_where, has_id}
-use Rattle.serial_model.specs.Actions.{Action, ends, quits, is_overgrown}
+use Rattle.serial_model.specs.Tracking.{has_id}
+use Rattle.serial_model.specs.Actions.{Action, ends, is_overgrown, quits}
+use Rattle.serial_model.specs.EntryEffects.{action_drops, drops_at, drops_one}
 use Rattle.serial_model.specs.History.{state, run_action, tick_action, table, table_grown}
 use Rattle.serial_model.specs.History.{table_then, is_quit, runs_on}
 use Rattle.serial_model.specs.History.{has_ended, keyspace, ran}
 use Rattle.serial_model.proofs.Counts.{on_is}
-use Rattle.serial_model.proofs.Ends.{ids_pass, is_ending}
-use Rattle.serial_model.proofs.ServedRows.{none_stops}
+use Rattle.serial_model.proofs.Ends.{ends_are}
+use Rattle.serial_model.proofs.ServedRows.{quit_in}
 use Rattle.serial_model.proofs.TableSize.{table_within, without_keys_within}
 
 -- ---- one that is on
 
-on_parts : (s : State) (c : ℕ) → is_on s c ≡ true
+pub on_parts : (s : State) (c : ℕ) → is_on s c ≡ true
     → (0 < c) × (c ≤ s.admitted) × (is_live (s.standing c) ≡ true)
 on_parts s c h = (grind (arith, nat_tests), grind (arith, nat_tests), grind arith)
 
-runs_live : (l : Limits) (past : List Entry) (c : ℕ) → runs_on l past c ≡ true
-    → has_ended l c past ≡ false
-runs_live l past c on = grind arith
+-- ---- whom an action ends, and whom of these it drops
 
--- ---- whom a turn ends
+has_filtered : (p : ℕ → Bool) (c : ℕ) (ids : List ℕ)
+    → has_id c (filter p ids) ≡ (has_id c ids && p c)
+has_filtered p c [] = refl
+has_filtered p c (id ∷ ids) = grind (arith, nat_tests, has_filtered p c ids)
 
-and_false : (b : Bool) → (b && false) ≡ false
-and_false b = grind arith
-
-none_where : (test : ℕ → Bool) (n : ℕ) → ((h : ℕ) → h ≤ n → test h ≡ false)
-    → ids_where test n ≡ []
-none_where test zero f = refl
-none_where test (suc n) f =
-    ap (λ b. cond b (ids_where test n ++ suc n ∷ []) (ids_where test n)) (f (suc n) (omega arith))
-    ∙ none_where test n (λ h le. f h (omega (arith, le)))
-
--- a test that holds for one of them alone
-one_where : (test : ℕ → Bool) (id n : ℕ) → ((h : ℕ) → (id == h) ≡ false → test h ≡ false)
-    → test id ≡ true → 0 < id → id ≤ n → ids_where test n ≡ id ∷ []
-one_where test id zero f e some le = absurd (omega (arith, some, le))
-one_where test id (suc n) f e some le = elim (cases_Bool (id == suc n)) [
-  | inl same ↦
-      ap (λ b. cond b (ids_where test n ++ suc n ∷ []) (ids_where test n))
-      (ap test (sym (eqb-true id (suc n) same)) ∙ e)
-      ∙ ap (λ ids. ids ++ suc n ∷ [])
-      (none_where test n (λ h le. f h (below h le (eqb-true id (suc n) same))))
-      ∙ ap (λ k. k ∷ []) (sym (eqb-true id (suc n) same))
-  | inr other ↦
-      ap (λ b. cond b (ids_where test n ++ suc n ∷ []) (ids_where test n)) (f (suc n) other)
-      ∙ one_where test id n f e some (earlier other)
-]
-  where
-    below : (h : ℕ) → h ≤ n → id ≡ suc n → (id == h) ≡ false
-    below h le same = grind (arith, nat_tests)
-
-    earlier : (id == suc n) ≡ false → id ≤ n
-    earlier other = grind (arith, nat_tests)
-
-quiet : (live b : Bool) (e : Ending) → (b && is_quitting e) ≡ false → is_stopping e ≡ false
-    → (live && ((b && is_quitting e) || is_stopping e || false)) ≡ false
-quiet live b e h is = grind arith
-
-ended : (live b : Bool) (e : Ending) → live ≡ true → b ≡ true → is_quitting e ≡ true
-    → (live && ((b && is_quitting e) || is_stopping e || false)) ≡ true
-ended live b e on same h = grind arith
-
--- who does not quit goes on, where the server does
-pub goes_on : (o : ℕ → Bool) (t : Action) (s : State) → ((c : ℕ) → o c ≡ false)
-    → is_stopping t.effect.ending ≡ false → (c : ℕ) → quits t c ≡ false
-    → is_ending o t s c ≡ false
-goes_on o t s within on c stays =
-    ap (λ b. is_live (s.standing c) && (quits t c || is_stopping t.effect.ending || b)) (within c)
-    ∙ quiet (is_live (s.standing c)) (t.by == c) t.effect.ending stays on
-
-pub none_end : (o : ℕ → Bool) (t : Action) (s : State) → ((c : ℕ) → o c ≡ false)
-    → t.effect.ending ≡ Stays → ends o t s ≡ []
-none_end o t s within stays =
-    none_where (is_ending o t s) s.admitted
-    (λ c le. goes_on o t s within (ap is_stopping stays) c
-    (ap (λ e. (t.by == c) && is_quitting e) stays ∙ and_false (t.by == c)))
+filter_alike : (p q : ℕ → Bool) (ids : List ℕ) → ((c : ℕ) → p c ≡ q c)
+    → filter p ids ≡ filter q ids
+filter_alike p q [] same = refl
+filter_alike p q (id ∷ ids) same = grind (arith, filter_alike p q ids)
 
 abbrev pub run_ends : Limits → ℕ → List (List ℕ) → ℕ → State → List ℕ
-run_ends l id words moment s =
-    let t = run_action id words moment s in ends (is_overgrown l t s) t s
-
-module _ (l : Limits) (id : ℕ) (words : List (List ℕ)) (moment : ℕ) (s : State) where
-  abbrev t : Action
-  t = run_action id words moment s
-
-  abbrev ending : ℕ → Bool
-  ending = is_ending (is_overgrown l t s) t s
-
-  ends_none : (c : ℕ) → ((id == c) && is_quit words) ≡ false → ending c ≡ false
-  ends_none c h = goes_on (is_overgrown l t s) t s (λ c. refl) (none_stops (reading words)) c h
-
-  -- it ends nobody else
-  pub run_ends_other : (c : ℕ) → ((id == c) && is_quit words) ≡ false
-      → has_id c (run_ends l id words moment s) ≡ false
-  run_ends_other c h = ids_pass ending c s.admitted (ends_none c h)
-
-  pub run_ends_none : is_quit words ≡ false → run_ends l id words moment s ≡ []
-  run_ends_none h =
-      none_where ending s.admitted
-      (λ c le. ends_none c (ap (λ b. (id == c) && b) h ∙ and_false (id == c)))
-
-  pub run_ends_own : is_on s id ≡ true → is_quit words ≡ true
-      → run_ends l id words moment s ≡ id ∷ []
-  run_ends_own on h =
-      one_where ending id s.admitted
-      (λ c other. ends_none c (ap (λ b. b && is_quit words) other))
-      (let p = on_parts s id on in
-      ended (is_live (s.standing id)) (id == id) t.effect.ending p.2 (eq-eqb id id refl) h)
-      (on_parts s id on).0 (on_parts s id on).1
-
-  -- the Run of a connection that is on ends it where it quits
-  pub run_ends_are : is_on s id ≡ true
-      → run_ends l id words moment s ≡ (if is_quit words then id ∷ [] else [])
-  run_ends_are on = elim (cases_Bool (is_quit words)) [
-    | inl h ↦ run_ends_own on h ∙ ap (λ b. cond b (id ∷ []) []) (sym h)
-    | inr h ↦ run_ends_none h ∙ ap (λ b. cond b (id ∷ []) []) (sym h)
-  ]
+run_ends l id words moment s = ends l (run_action id words moment s) s
 
 abbrev pub tick_ends : Limits → ℕ → State → List ℕ
-tick_ends l moment s = let t = tick_action moment s in ends (is_overgrown l t s) t s
+tick_ends l moment s = ends l (tick_action moment s) s
 
-pub none_by_tick : (l : Limits) (moment : ℕ) (s : State) → tick_ends l moment s ≡ []
-none_by_tick l moment s =
-    let t = tick_action moment s in none_end (is_overgrown l t s) t s (λ c. refl) refl
+-- a Run's own connection quits by it where its words are QUIT
+pub run_quits : (id moment : ℕ) (words : List (List ℕ)) (s : State) (c : ℕ)
+    → quits (run_action id words moment s) c ≡ ((id == c) && is_quit words)
+run_quits id moment words s c = ap (λ b. (id == c) && b) (quit_in (s.modes id) words)
+
+pub tick_quits : (moment : ℕ) (s : State) (c : ℕ) → quits (tick_action moment s) c ≡ false
+tick_quits moment s c = grind arith
+
+-- those whom a Run drops are those whom it ends but for the one that quits
+pub drops_are : (l : Limits) (id : ℕ) (words : List (List ℕ)) (moment : ℕ) (s : State)
+    → drops_at l (Run id words moment) s
+    ≡ filter (λ c. not ((id == c) && is_quit words)) (run_ends l id words moment s)
+drops_are l id words moment s =
+    filter_alike (λ c. not (quits (run_action id words moment s) c)) _
+    (run_ends l id words moment s) (λ c. ap not (run_quits id moment words s c))
+
+module _ (l : Limits) (t : Action) (s : State) (c : ℕ) where
+  action_dropped : has_id c (action_drops l t s) ≡ (has_id c (ends l t s) && not (quits t c))
+  action_dropped = has_filtered (λ c. not (quits t c)) c (ends l t s)
+
+  pub ends_on : has_id c (ends l t s) ≡ true → is_on s c ≡ true
+  ends_on h = (and_parts (is_on s c) _ (sym (ends_are l t s c) ∙ h)).0
+
+  -- one that is on ends where it quits
+  quits_end : is_on s c ≡ true → quits t c ≡ true → has_id c (ends l t s) ≡ true
+  quits_end on q = ends_are l t s c
+      ∙ asked (is_on s c) (quits t c) (is_stopping t.effect.ending) (is_overgrown l t s c) on q
+    where
+      asked : (on q stop over : Bool) → on ≡ true → q ≡ true → (on && (q || stop || over)) ≡ true
+      asked on q stop over e f = grind arith
+
+-- what follows for a standing, where an action ends (h), by a quit (q) or a drop (d)
+module _ (h q d : Bool) (x : Standing) (is : d ≡ (h && not q)) where
+  stays_so : q ≡ false → d ≡ false → cond h (cond q Quit Gone) x ≡ x
+  stays_so e f = grind arith
+
+  is_dropped : d ≡ true → cond h (cond q Quit Gone) x ≡ Gone
+  is_dropped e = grind arith
+
+  has_quit : h ≡ true → q ≡ true → cond h (cond q Quit Gone) x ≡ Quit
+  has_quit e f = grind arith
+
+  ended_so : (q ≡ true → h ≡ true)
+      → not (is_live (cond h (cond q Quit Gone) x)) ≡ (not (is_live x) || (q || d))
+  ended_so f = grind arith
+
+  no_quit : d ≡ true → q ≡ false
+  no_quit e = grind arith
 
 -- ---- standings
 
-stands_after : (q : Bool) (ids : List ℕ) (id : ℕ) (x : Standing) → is_live x ≡ true
-    → ids ≡ cond q (id ∷ []) []
-    → cond (has_id id ids) (cond ((id == id) && q) Quit Gone) x ≡ cond q Quit Live
-stands_after true ids id x live is = grind (arith, nat_tests)
-stands_after false ids id x live is = grind (arith, nat_tests)
-
-own_ended : (q b : Bool) (before after : Standing) → not (is_live before) ≡ false → b ≡ true
-    → after ≡ cond q Quit Live → not (is_live after) ≡ (not (is_live before) || (b && q))
-own_ended true b before after live same e = grind arith
-own_ended false b before after live same e = grind arith
-
-other_ended : (q b : Bool) (before after : Standing) → b ≡ false → after ≡ before
-    → not (is_live after) ≡ (not (is_live before) || (b && q))
-other_ended q b before after other e = grind arith
-
-freed_where : (q : Bool) (id : ℕ) (rows : List Held)
-    → for_each without_connection (cond q (id ∷ []) []) rows
-    ≡ cond q (without_connection id rows) rows
-freed_where true id rows = refl
-freed_where false id rows = refl
-
 module _ (l : Limits) (past : List Entry) where
-  -- a Run leaves the standing of all others
-  pub run_stands_other : (c id moment : ℕ) (words : List (List ℕ)) → (id == c) ≡ false
-      → (state l (Run id words moment ∷ past)).standing c ≡ (state l past).standing c
-  unfolding state
-  run_stands_other c id moment words other =
-      ap (λ b. cond b (cond (quits (run_action id words moment (state l past)) c) Quit Gone)
-      ((state l past).standing c))
-      (run_ends_other l id words moment (state l past) c (ap (λ b. b && is_quit words) other))
+  abbrev s : State
+  s = state l past
 
-  -- and where it does not quit its own too
-  pub run_stands : (c id moment : ℕ) (words : List (List ℕ)) → is_quit words ≡ false
-      → (state l (Run id words moment ∷ past)).standing c ≡ (state l past).standing c
-  unfolding state
-  run_stands c id moment words stays =
-      ap (λ ids. cond (has_id c ids)
-      (cond (quits (run_action id words moment (state l past)) c) Quit Gone)
-      ((state l past).standing c)) (run_ends_none l id words moment (state l past) stays)
+  pub run_dropped : (c id moment : ℕ) (words : List (List ℕ))
+      → drops_one l (Run id words moment) past c
+      ≡ (has_id c (run_ends l id words moment s) && not ((id == c) && is_quit words))
+  run_dropped c id moment words =
+      action_dropped l (run_action id words moment s) s c
+      ∙ ap (λ q. has_id c (run_ends l id words moment s) && not q)
+      (run_quits id moment words s c)
 
-  pub run_stands_own : (id moment : ℕ) (words : List (List ℕ)) → runs_on l past id ≡ true
-      → (state l (Run id words moment ∷ past)).standing id
-      ≡ (if is_quit words then Quit else Live)
-  unfolding state
-  run_stands_own id moment words on =
-      let s = state l past in
-      let is_on : is_on s id ≡ true = on_is l past id ∙ on in
-      stands_after (is_quit words) (run_ends l id words moment s) id (s.standing id)
-      (on_parts s id is_on).2 (run_ends_are l id words moment s is_on)
+  pub tick_dropped : (c moment : ℕ)
+      → drops_one l (Tick moment) past c ≡ has_id c (tick_ends l moment s)
+  tick_dropped c moment =
+      action_dropped l (tick_action moment s) s c
+      ∙ all_of (has_id c (tick_ends l moment s)) (0 == c)
+    where
+      all_of : (h b : Bool) → (h && not (b && false)) ≡ h
+      all_of h b = grind arith
 
-  pub tick_stands : (c moment : ℕ)
-      → (state l (Tick moment ∷ past)).standing c ≡ (state l past).standing c
-  unfolding state
-  tick_stands c moment =
-      ap (λ ids. cond (has_id c ids) (cond (quits (tick_action moment (state l past)) c) Quit Gone)
-      ((state l past).standing c)) (none_by_tick l moment (state l past))
+  -- a connection that is dropped was on, and does not quit by that entry
+  pub drop_live : (e : Entry) (c : ℕ) → drops_one l e past c ≡ true → is_on s c ≡ true
+  drop_live (Run id words moment) c h =
+      ends_on l (run_action id words moment s) s c
+      (and_parts _ _ (sym (run_dropped c id moment words) ∙ h)).0
+  drop_live (Tick moment) c h =
+      ends_on l (tick_action moment s) s c (sym (tick_dropped c moment) ∙ h)
+  drop_live e c h = absurd (let no : ⊥ = cc in no)
 
-  -- a Run ends its own connection where it quits
+  pub drop_no_quit : (c id moment : ℕ) (words : List (List ℕ))
+      → drops_one l (Run id words moment) past c ≡ true → ((id == c) && is_quit words) ≡ false
+  drop_no_quit c id moment words h =
+      no_quit (has_id c (run_ends l id words moment s)) _ _ Gone (run_dropped c id moment words) h
+
+  pub run_after : (c id moment : ℕ) (words : List (List ℕ))
+      → (state l (Run id words moment ∷ past)).standing c
+      ≡ cond (has_id c (run_ends l id words moment s))
+      (cond ((id == c) && is_quit words) Quit Gone) (s.standing c)
+  unfolding state
+  run_after c id moment words =
+      ap (λ q. cond (has_id c (run_ends l id words moment s)) (cond q Quit Gone) (s.standing c))
+      (run_quits id moment words s c)
+
+  pub tick_after : (c moment : ℕ)
+      → (state l (Tick moment ∷ past)).standing c
+      ≡ cond (drops_one l (Tick moment) past c) Gone (s.standing c)
+  unfolding state
+  tick_after c moment =
+      ap (λ q. cond (has_id c (tick_ends l moment s)) (cond q Quit Gone) (s.standing c))
+      (tick_quits moment s c)
+      ∙ ap (λ h. cond h Gone (s.standing c)) (sym (tick_dropped c moment))
+
+  -- one that an entry neither drops nor lets quit stands as before
+  pub run_stands : (c id moment : ℕ) (words : List (List ℕ)) → ((id == c) && is_quit words) ≡ false
+      → drops_one l (Run id words moment) past c ≡ false
+      → (state l (Run id words moment ∷ past)).standing c ≡ s.standing c
+  run_stands c id moment words stays none =
+      run_after c id moment words
+      ∙ stays_so (has_id c (run_ends l id words moment s)) _ _ (s.standing c)
+      (run_dropped c id moment words) stays none
+
+  pub tick_stands : (c moment : ℕ) → drops_one l (Tick moment) past c ≡ false
+      → (state l (Tick moment ∷ past)).standing c ≡ s.standing c
+  tick_stands c moment none =
+      tick_after c moment ∙ ap (λ b. cond b Gone (s.standing c)) none
+
+  pub run_stands_quit : (id moment : ℕ) (words : List (List ℕ)) → runs_on l past id ≡ true
+      → is_quit words ≡ true → (state l (Run id words moment ∷ past)).standing id ≡ Quit
+  run_stands_quit id moment words on q =
+      let t = run_action id words moment s in
+      let own = ap (λ b. b && is_quit words) (eq-eqb id id refl) ∙ q in
+      run_after id id moment words
+      ∙ has_quit (has_id id (run_ends l id words moment s)) _ _ (s.standing id)
+      (run_dropped id id moment words)
+      (quits_end l t s id (on_is l past id ∙ on) (run_quits id moment words s id ∙ own)) own
+
+  pub dropped_stands : (e : Entry) (c : ℕ) → drops_one l e past c ≡ true
+      → (state l (e ∷ past)).standing c ≡ Gone
+  dropped_stands (Run id words moment) c h =
+      run_after c id moment words
+      ∙ is_dropped (has_id c (run_ends l id words moment s)) _ _ (s.standing c)
+      (run_dropped c id moment words) h
+  dropped_stands (Tick moment) c h =
+      tick_after c moment ∙ ap (λ b. cond b Gone (s.standing c)) h
+  dropped_stands e c h = absurd (let no : ⊥ = cc in no)
+
+  -- a Run ends its own connection where it quits, and those whom it drops
+  pub ended_by_run : (c id moment : ℕ) (words : List (List ℕ))
+      → (((id == c) && is_quit words) ≡ true → runs_on l past c ≡ true)
+      → has_ended l c (Run id words moment ∷ past)
+      ≡ (has_ended l c past
+      || (((id == c) && is_quit words) || drops_one l (Run id words moment) past c))
+  ended_by_run c id moment words on =
+      ap (λ x. not (is_live x)) (run_after c id moment words)
+      ∙ ended_so (has_id c (run_ends l id words moment s)) _ _ (s.standing c)
+      (run_dropped c id moment words)
+      (λ q. quits_end l (run_action id words moment s) s c (on_is l past c ∙ on q)
+      (run_quits id moment words s c ∙ q))
+
   pub run_ended : (c id moment : ℕ) (words : List (List ℕ)) → runs_on l past id ≡ true
       → has_ended l c (Run id words moment ∷ past)
-      ≡ (has_ended l c past || ((id == c) && is_quit words))
-  run_ended c id moment words on = elim (cases_Bool (id == c)) [
-    | inl same ↦ own_ended (is_quit words) (id == c) ((state l past).standing c) _
-        (runs_live l past c (subst (λ k. runs_on l past k ≡ true) (eqb-true id c same) on)) same
-        (ap (state l (Run id words moment ∷ past)).standing (sym (eqb-true id c same))
-        ∙ run_stands_own id moment words on)
-    | inr other ↦ other_ended (is_quit words) (id == c) ((state l past).standing c) _ other
-        (run_stands_other c id moment words other)
-  ]
+      ≡ (has_ended l c past
+      || (((id == c) && is_quit words) || drops_one l (Run id words moment) past c))
+  run_ended c id moment words on =
+      ended_by_run c id moment words
+      (λ q. ap (runs_on l past) (sym (eqb-true id c (and_parts (id == c) _ q).0)) ∙ on)
 
-  pub tick_ended : (c moment : ℕ) → has_ended l c (Tick moment ∷ past) ≡ has_ended l c past
-  tick_ended c moment = ap (λ x. not (is_live x)) (tick_stands c moment)
+  pub tick_ended : (c moment : ℕ)
+      → has_ended l c (Tick moment ∷ past)
+      ≡ (has_ended l c past || drops_one l (Tick moment) past c)
+  tick_ended c moment =
+      ap (λ x. not (is_live x)) (tick_after c moment)
+      ∙ over (drops_one l (Tick moment) past c) (s.standing c)
+    where
+      over : (d : Bool) (x : Standing)
+          → not (is_live (cond d Gone x)) ≡ (not (is_live x) || d)
+      over d x = grind arith
 
   -- ---- the keys
 
@@ -224,35 +228,23 @@ module _ (l : Limits) (past : List Entry) where
 
   -- ---- the table
 
-  -- a connection that quits leaves it
-  pub run_table : (id moment : ℕ) (words : List (List ℕ)) → runs_on l past id ≡ true
+  -- those that end leave it
+  pub run_table : (id moment : ℕ) (words : List (List ℕ))
       → table l (Run id words moment ∷ past)
-      ≡ (if is_quit words
-      then without_connection id (kept l.table_max (table_grown l past id words moment))
-      else kept l.table_max (table_grown l past id words moment))
+      ≡ for_each without_connection (run_ends l id words moment s)
+      (kept l.table_max (table_grown l past id words moment))
   unfolding state
-  run_table id moment words on =
-      ap (λ ids. for_each without_connection ids
-      (kept l.table_max (table_grown l past id words moment)))
-      (run_ends_are l id words moment (state l past) (on_is l past id ∙ on))
-      ∙ freed_where (is_quit words) id (kept l.table_max (table_grown l past id words moment))
-
-  pub run_table_stays : (id moment : ℕ) (words : List (List ℕ)) → is_quit words ≡ false
-      → table l (Run id words moment ∷ past) ≡ kept l.table_max (table_grown l past id words moment)
-  unfolding state
-  run_table_stays id moment words stays =
-      ap (λ ids. for_each without_connection ids
-      (kept l.table_max (table_grown l past id words moment)))
-      (run_ends_none l id words moment (state l past) stays)
+  run_table id moment words = refl
 
   all_kept : (limit : ℕ) (rows : List Held) → length rows ≤ limit → kept limit rows ≡ rows
   all_kept limit rows le =
       ap (λ n. drop n rows) (let e : length rows - limit ≡ 0 = omega (arith, le) in e)
 
-  pub tick_table : (moment : ℕ) → table l (Tick moment ∷ past) ≡ table_then l past moment
+  pub tick_table : (moment : ℕ)
+      → table l (Tick moment ∷ past)
+      ≡ for_each without_connection (tick_ends l moment s) (table_then l past moment)
   unfolding state
   tick_table moment =
-      ap (λ ids. for_each without_connection ids (kept l.table_max (table_then l past moment)))
-      (none_by_tick l moment (state l past))
-      ∙ all_kept l.table_max (table_then l past moment)
-      (grind (arith, without_keys_within, table_within))
+      ap (for_each without_connection (tick_ends l moment s))
+      (all_kept l.table_max (table_then l past moment)
+      (grind (arith, without_keys_within, table_within)))

@@ -1,14 +1,14 @@
 -- What holds of each answer that a step may give holds of the step.
-use Rattle.std.proofs.Common.{◌≡◌, ◌+◌, ℕ, List, [], ◌∷◌, true, length, take, max, arith}
+use Rattle.std.proofs.Common.{◌≡◌, ◌+◌, ℕ, List, [], ◌∷◌, true, false, length, take, max, arith}
 use Rattle.serial_model.specs.declared.history.Limits.{Limits}
 use Rattle.serial_model.specs.declared.history.Entry.{Entry}
 use Rattle.serial_model.specs.declared.history.Entry.TheVariants as entry
 use Rattle.serial_model.specs.declared.history.BookCall.TheVariants.{Admit, Run, Tick, Take, Close}
 use Rattle.serial_model.specs.declared.history.BookReply.TheVariants.{Ticked, Quiet, Bytes}
 use Rattle.serial_model.specs.History.{runs_on, gives_on, reads_on, latest, unsent}
-use Rattle.serial_model.specs.History.{expired}
+use Rattle.serial_model.specs.History.{expired, is_stopped}
 use Rattle.serial_model.specs.Steps.{Turn, book_step, taking, gone, admitting}
-use Rattle.serial_model.specs.Steps.{running, closing}
+use Rattle.serial_model.specs.Steps.{running, closing, stopped}
 
 abbrev pub quiet : List Entry → Turn
 quiet past = record { reply = Quiet; past = past }
@@ -22,9 +22,10 @@ took past id most bytes =
     record { reply = Bytes (length past + 1) bytes; past = entry.Take id most ∷ past }
 
 module _ (l : Limits) (past : List Entry) (P : Turn → Type 0) where
-  pub by_admit : P (admitting past) → P (book_step l past Admit)
+  pub by_admit : P (stopped past) → (is_stopped l past ≡ false → P (admitting past))
+      → P (book_step l past Admit)
   unfolding book_step
-  by_admit does = does
+  by_admit stops does = grind arith
 
   pub by_run : (id : ℕ) (words : List (List ℕ)) (now : ℕ) → P (gone past id)
       → (runs_on l past id ≡ true → P (running past id words now))
@@ -32,12 +33,12 @@ module _ (l : Limits) (past : List Entry) (P : Turn → Type 0) where
   unfolding book_step
   by_run id words now ended does = grind arith
 
-  pub by_tick : (now : ℕ) → P (quiet past)
-      → ((expired l past (max now (latest past)) ≡ [] → ⊥)
+  pub by_tick : (now : ℕ) → P (stopped past) → P (quiet past)
+      → (is_stopped l past ≡ false → (expired l past (max now (latest past)) ≡ [] → ⊥)
       → P (ticked past (max now (latest past))))
       → P (book_step l past (Tick now))
   unfolding book_step
-  by_tick now still does = grind arith
+  by_tick now stops still does = grind arith
 
   by_taking : (id most : ℕ) (bytes : List ℕ) → P (quiet past)
       → ((bytes ≡ [] → ⊥) → P (took past id most bytes)) → P (taking past id most bytes)

@@ -8,7 +8,7 @@ use Rattle.std.proofs.lemmas.Grind.{flat_map-append}
 use Rattle.std.proofs.lemmas.List.{drop-drop, drop-append-le, drop_all, length-drop}
 use Rattle.std.proofs.Math.Seq.{drop-nil, take-nil}
 use Rattle.std.proofs.lemmas.Bool.{cases_lt, and_parts, both_ways, true_from_ne_false, eqb-true}
-use Rattle.std.proofs.lemmas.Bool.{eq-eqb, not-true}
+use Rattle.std.proofs.lemmas.Bool.{eq-eqb, false_from_ne_true, not-true}
 use Rattle.std.proofs.lemmas.Bool.Decides.{nat_tests}
 use Rattle.serial_model.specs.declared.history.Limits.{Limits}
 use Rattle.serial_model.specs.declared.history.Entry.{Entry}
@@ -19,16 +19,18 @@ use Rattle.serial_model.specs.Tracking.{has_id}
 use Rattle.serial_model.specs.State.{State, is_live, keeps_bytes, may_take, closed}
 use Rattle.serial_model.specs.Actions.{Action, action_sends, action_leaves, ends, bytes_to}
 use Rattle.serial_model.specs.Actions.{standing_after}
-use Rattle.serial_model.specs.Actions.{quits, is_overgrown}
+use Rattle.serial_model.specs.Actions.{quits}
+use Rattle.serial_model.specs.EntryEffects.{drops_one}
 use Rattle.serial_model.specs.History.{admitted, is_admitted, runs_on, reads_on, gives_on}
 use Rattle.serial_model.specs.History.{has_ended}
 use Rattle.serial_model.specs.History.{state, sends, next, sent_to, sent_bytes, stream, taken}
 use Rattle.serial_model.specs.History.{unsent, runs_of, run_action, tick_action, IsLegal}
 use Rattle.serial_model.specs.Laws.{CloseGivesUp, WaitingIsUnsent}
 use Rattle.serial_model.proofs.Sendings.{bytes_are}
-use Rattle.serial_model.proofs.Ends.{not_ending, sends_none}
+use Rattle.serial_model.proofs.Ends.{sends_none}
 use Rattle.serial_model.proofs.Fresh.{sent_fresh, fresh_is_first}
-use Rattle.serial_model.proofs.StateSteps.{run_ends, run_ends_other, tick_stands}
+use Rattle.serial_model.proofs.StateSteps.{drop_live, dropped_stands, ends_on, on_parts, run_after}
+use Rattle.serial_model.proofs.StateSteps.{run_dropped, run_ends, tick_after}
 
 both_true : (a b : Bool) → (a && not b) ≡ true → (a ≡ true) × (b ≡ false)
 both_true a b h = grind arith
@@ -52,24 +54,28 @@ runs_keeps a x h = grind arith
 keeps_takes : (a : Bool) (x : Standing) → (a && keeps_bytes x) ≡ true → (a && may_take x) ≡ true
 keeps_takes a x h = grind arith
 
--- where an action ends a connection, that one quits
-keeps_after : (h q : Bool) (x : Standing) → (h ≡ true → q ≡ true) → (h ≡ true → is_live x ≡ true)
-    → keeps_bytes (cond h (cond q Quit Gone) x) ≡ keeps_bytes x
-keeps_after h q x f g = grind arith
+-- where an action ends a connection (h), it quits or is dropped (d)
+keeps_after : (h q d : Bool) (x : Standing) → d ≡ (h && not q) → (h ≡ true → is_live x ≡ true)
+    → keeps_bytes (cond h (cond q Quit Gone) x) ≡ (keeps_bytes x && not d)
+keeps_after h q d x is f = grind arith
 
-takes_after : (h q : Bool) (x : Standing) → (h ≡ true → q ≡ true) → (h ≡ true → is_live x ≡ true)
-    → may_take (cond h (cond q Quit Gone) x) ≡ may_take x
-takes_after h q x f g = grind arith
+takes_after : (h q d : Bool) (x : Standing) → d ≡ (h && not q) → (h ≡ true → is_live x ≡ true)
+    → may_take (cond h (cond q Quit Gone) x) ≡ (may_take x && not d)
+takes_after h q d x is f = grind arith
 
-ending_live : (o : ℕ → Bool) (t : Action) (s : State) (c : ℕ) → has_id c (ends o t s) ≡ true
+keeps_dropped : (d : Bool) (x : Standing)
+    → keeps_bytes (cond d Gone x) ≡ (keeps_bytes x && not d)
+keeps_dropped d x = grind arith
+
+takes_dropped : (d : Bool) (x : Standing) → may_take (cond d Gone x) ≡ (may_take x && not d)
+takes_dropped d x = grind arith
+
+ending_live : (l : Limits) (t : Action) (s : State) (c : ℕ) → has_id c (ends l t s) ≡ true
     → is_live (s.standing c) ≡ true
-ending_live o t s c h = true_from_ne_false _ (λ e. both_ways _ (not_ending o t s c e) h)
+ending_live l t s c h = (on_parts s c (ends_on l t s c h)).2
 
-ending_quits : (l : Limits) (id moment : ℕ) (words : List (List ℕ)) (s : State) (c : ℕ)
-    → has_id c (run_ends l id words moment s) ≡ true
-    → quits (run_action id words moment s) c ≡ true
-ending_quits l id moment words s c h =
-    true_from_ne_false _ (λ e. both_ways _ (run_ends_other l id words moment s c e) h)
+still : (a b : Bool) → a ≡ true → b ≡ false → (a && not b) ≡ true
+still a b e f = grind arith
 
 module _ (l : Limits) where
   -- one that runs on can be closed, and one that can be closed may take
@@ -83,26 +89,40 @@ module _ (l : Limits) where
   pub runs_give : (past : List Entry) (c : ℕ) → runs_on l past c ≡ true → gives_on l past c ≡ true
   runs_give past c h = reads_give past c (runs_read past c h)
 
-  -- a Run leaves what can be closed and who may take, also a QUIT
+  -- what can be closed, and who may take, are so still but for a drop, also after a QUIT
   pub keeps_run : (past : List Entry) (c id moment : ℕ) (words : List (List ℕ))
       → keeps_bytes ((state l (Run id words moment ∷ past)).standing c)
-      ≡ keeps_bytes ((state l past).standing c)
-  unfolding state
+      ≡ (keeps_bytes ((state l past).standing c) && not (drops_one l (Run id words moment) past c))
   keeps_run past c id moment words =
       let s = state l past in
-      let t = run_action id words moment s in
-      keeps_after (has_id c (ends (is_overgrown l t s) t s)) (quits t c) (s.standing c)
-      (ending_quits l id moment words s c) (ending_live (is_overgrown l t s) t s c)
+      ap keeps_bytes (run_after l past c id moment words)
+      ∙ keeps_after (has_id c (run_ends l id words moment s)) _ _ (s.standing c)
+      (run_dropped l past c id moment words)
+      (ending_live l (run_action id words moment s) s c)
 
   pub takes_run : (past : List Entry) (c id moment : ℕ) (words : List (List ℕ))
       → may_take ((state l (Run id words moment ∷ past)).standing c)
-      ≡ may_take ((state l past).standing c)
-  unfolding state
+      ≡ (may_take ((state l past).standing c) && not (drops_one l (Run id words moment) past c))
   takes_run past c id moment words =
       let s = state l past in
-      let t = run_action id words moment s in
-      takes_after (has_id c (ends (is_overgrown l t s) t s)) (quits t c) (s.standing c)
-      (ending_quits l id moment words s c) (ending_live (is_overgrown l t s) t s c)
+      ap may_take (run_after l past c id moment words)
+      ∙ takes_after (has_id c (run_ends l id words moment s)) _ _ (s.standing c)
+      (run_dropped l past c id moment words)
+      (ending_live l (run_action id words moment s) s c)
+
+  pub keeps_tick : (past : List Entry) (c moment : ℕ)
+      → keeps_bytes ((state l (Tick moment ∷ past)).standing c)
+      ≡ (keeps_bytes ((state l past).standing c) && not (drops_one l (Tick moment) past c))
+  keeps_tick past c moment =
+      ap keeps_bytes (tick_after l past c moment)
+      ∙ keeps_dropped (drops_one l (Tick moment) past c) ((state l past).standing c)
+
+  pub takes_tick : (past : List Entry) (c moment : ℕ)
+      → may_take ((state l (Tick moment ∷ past)).standing c)
+      ≡ (may_take ((state l past).standing c) && not (drops_one l (Tick moment) past c))
+  takes_tick past c moment =
+      ap may_take (tick_after l past c moment)
+      ∙ takes_dropped (drops_one l (Tick moment) past c) ((state l past).standing c)
 
   -- a connection that runs on was admitted, and has not ended
   pub connected : (past : List Entry) (id : ℕ) → runs_on l past id ≡ true
@@ -138,12 +158,12 @@ module _ (l : Limits) where
   pub runs_fresh : (past : List Entry) (c : ℕ) → IsLegal l past → admitted past < c
       → runs_of c past ≡ []
   runs_fresh [] c h lt = refl
-  runs_fresh (Admit id ∷ past) c h lt = runs_fresh past c h.1 (omega arith)
+  runs_fresh (Admit id ∷ past) c h lt = runs_fresh past c h.2 (omega arith)
   runs_fresh (Run id words moment ∷ past) c h lt =
       ap (λ b. cond b (runs_of c past ++ words ∷ []) (runs_of c past))
       (other_id past id c (and_parts (is_admitted past id) _ h.0).0 lt)
       ∙ runs_fresh past c h.2 lt
-  runs_fresh (Tick moment ∷ past) c h lt = runs_fresh past c h.2 lt
+  runs_fresh (Tick moment ∷ past) c h lt = runs_fresh past c h.3 lt
   runs_fresh (Take id max ∷ past) c h lt = runs_fresh past c h.2 lt
   runs_fresh (Close id ∷ past) c h lt = runs_fresh past c h.1 lt
 
@@ -164,7 +184,7 @@ module _ (l : Limits) where
       → stream l c (Take id m ∷ past) ≡ stream l c past
   stream_take past c id m = grind (arith, stream_more, append-nil)
 
-  close_bytes : (n c id : ℕ) (s : State) → sent_bytes (sent_to n c (sends l (Close id) s)) ≡ []
+  pub close_bytes : (n c id : ℕ) (s : State) → sent_bytes (sent_to n c (sends l (Close id) s)) ≡ []
   close_bytes n c id s = grind arith
 
   -- an end has no bytes
@@ -252,26 +272,44 @@ module _ (l : Limits) where
   unfolding state keeps
   unsent_admit past c id = unsent_same past c (Admit id) refl refl (stream_admit past c id)
 
-  -- where a connection has not ended, what an action sends comes after what is unsent
+  -- where a connection keeps what is unsent, what an entry sends comes after it
+  unsent_more : (past : List Entry) (c : ℕ) (entry : Entry) → has_ended l c past ≡ false
+      → keeps (entry ∷ past) c ≡ true → taken l c (entry ∷ past) ≡ taken l c past
+      → unsent l c (entry ∷ past)
+      ≡ unsent l c past
+      ++ sent_bytes (sent_to (length past + 1) c (sends l entry (state l past)))
+  unfolding keeps
+  unsent_more past c entry h stays took =
+      unsent_kept (entry ∷ past) c stays
+      ∙ ap (λ n. drop n (stream l c (entry ∷ past))) took
+      ∙ ap (drop (taken l c past)) (stream_more past c entry)
+      ∙ drop-append-le (taken l c past) (stream l c past) _ (taken_le past c)
+      ∙ ap (λ x. x ++ sent_bytes (sent_to (length past + 1) c (sends l entry (state l past))))
+      (sym (unsent_live past c h))
+
   pub unsent_run : (past : List Entry) (c id moment : ℕ) (words : List (List ℕ))
-      → has_ended l c past ≡ false
+      → has_ended l c past ≡ false → drops_one l (Run id words moment) past c ≡ false
       → unsent l c (Run id words moment ∷ past)
       ≡ unsent l c past ++ run_bytes past id words moment c
-  unsent_run past c id moment words h =
-      unsent_kept (Run id words moment ∷ past) c
-      (keeps_run past c id moment words ∙ live_keeps ((state l past).standing c) h)
-      ∙ ap (drop (taken l c past)) (stream_more past c (Run id words moment))
-      ∙ drop-append-le (taken l c past) (stream l c past) _ (taken_le past c)
-      ∙ ap (λ x. x ++ run_bytes past id words moment c) (sym (unsent_live past c h))
+  unfolding keeps
+  unsent_run past c id moment words h none =
+      unsent_more past c (Run id words moment) h
+      (keeps_run past c id moment words
+      ∙ still _ _ (live_keeps ((state l past).standing c) h) none) refl
 
   pub unsent_tick : (past : List Entry) (c moment : ℕ) → has_ended l c past ≡ false
+      → drops_one l (Tick moment) past c ≡ false
       → unsent l c (Tick moment ∷ past) ≡ unsent l c past ++ tick_bytes past moment c
-  unsent_tick past c moment h =
-      unsent_live (Tick moment ∷ past) c
-      (ap (λ x. not (is_live x)) (tick_stands l past c moment) ∙ h)
-      ∙ ap (drop (taken l c past)) (stream_more past c (Tick moment))
-      ∙ drop-append-le (taken l c past) (stream l c past) _ (taken_le past c)
-      ∙ ap (λ x. x ++ tick_bytes past moment c) (sym (unsent_live past c h))
+  unfolding keeps
+  unsent_tick past c moment h none =
+      unsent_more past c (Tick moment) h
+      (keeps_tick past c moment ∙ still _ _ (live_keeps ((state l past).standing c) h) none) refl
+
+  -- what a connection did not take goes where it is dropped
+  pub unsent_dropped : (past : List Entry) (e : Entry) (c : ℕ) → drops_one l e past c ≡ true
+      → unsent l c (e ∷ past) ≡ []
+  unsent_dropped past e c h =
+      unsent_gone (e ∷ past) c (ap keeps_bytes (dropped_stands l past e c h))
 
   -- one that has ended is sent nothing more
   stream_ended : (past : List Entry) (c : ℕ) (entry : Entry) → has_ended l c past ≡ true
@@ -283,19 +321,33 @@ module _ (l : Limits) where
       (not-true (is_live ((state l past).standing c)) h))
       ∙ append-nil (stream l c past)
 
+  -- and it is not dropped
+  pub ended_stays : (past : List Entry) (e : Entry) (c : ℕ) → has_ended l c past ≡ true
+      → drops_one l e past c ≡ false
+  ended_stays past e c h =
+      false_from_ne_true _ (λ d. both_ways _
+      (not-true (is_live ((state l past).standing c)) h)
+      (on_parts (state l past) c (drop_live l past e c d)).2)
+
+  kept_still : (k d : Bool) → d ≡ false → (k && not d) ≡ k
+  kept_still k d e = grind arith
+
   pub unsent_run_ended : (past : List Entry) (c id moment : ℕ) (words : List (List ℕ))
       → has_ended l c past ≡ true
       → unsent l c (Run id words moment ∷ past) ≡ unsent l c past
   unfolding keeps
   unsent_run_ended past c id moment words h =
-      unsent_same past c (Run id words moment) (keeps_run past c id moment words) refl
+      unsent_same past c (Run id words moment)
+      (keeps_run past c id moment words
+      ∙ kept_still _ _ (ended_stays past (Run id words moment) c h)) refl
       (stream_ended past c (Run id words moment) h)
 
   pub unsent_tick_ended : (past : List Entry) (c moment : ℕ) → has_ended l c past ≡ true
       → unsent l c (Tick moment ∷ past) ≡ unsent l c past
   unfolding keeps
   unsent_tick_ended past c moment h =
-      unsent_same past c (Tick moment) (ap keeps_bytes (tick_stands l past c moment)) refl
+      unsent_same past c (Tick moment)
+      (keeps_tick past c moment ∙ kept_still _ _ (ended_stays past (Tick moment) c h)) refl
       (stream_ended past c (Tick moment) h)
 
   drop_min : (m : ℕ) (q : List ℕ) → drop (min m (length q)) q ≡ drop m q
@@ -393,13 +445,13 @@ more k' k w t x y f le e = rw length-append (grind arith)
 abbrev Waits : State → ℕ → ℕ → List ℕ → Type 0
 Waits s c took xs = s.waiting c ≡ cond (keeps_bytes (s.standing c)) (length xs - took) 0
 
-action_waits : (o : ℕ → Bool) (l : Limits) (t : Action) (s : State) (c took : ℕ) (xs : List ℕ)
+action_waits : (l : Limits) (t : Action) (s : State) (c took : ℕ) (xs : List ℕ)
     → took ≤ length xs → Waits s c took xs
-    → Waits (action_leaves o l t s) c took (xs ++ bytes_to c (action_sends o l t s))
-action_waits o l t s c took xs le w =
-    more (keeps_bytes (standing_after o t s c)) (keeps_bytes (s.standing c)) (s.waiting c) took xs
-    (bytes_to c (action_sends o l t s))
-    (keeps_before (has_id c (ends o t s)) (quits t c) (s.standing c) (ending_live o t s c))
+    → Waits (action_leaves l t s) c took (xs ++ bytes_to c (action_sends l t s))
+action_waits l t s c took xs le w =
+    more (keeps_bytes (standing_after l t s c)) (keeps_bytes (s.standing c)) (s.waiting c) took xs
+    (bytes_to c (action_sends l t s))
+    (keeps_before (has_id c (ends l t s)) (quits t c) (s.standing c) (ending_live l t s c))
     le w
 
 take_waits : (l : Limits) (id max : ℕ) (s : State) (c took : ℕ) (xs : List ℕ) → took ≤ length xs
@@ -427,13 +479,13 @@ module _ (l : Limits) (c : ℕ) where
       let s = state l past in
       let t = run_action id words moment s in
       rw (more_bytes (Run id words moment) past)
-      (action_waits (is_overgrown l t s) l t s c (taken l c past) (stream l c past)
+      (action_waits l t s c (taken l c past) (stream l c past)
       (taken_le l past c) (waits past))
   waits (Tick moment ∷ past) =
       let s = state l past in
       let t = tick_action moment s in
       rw (more_bytes (Tick moment) past)
-      (action_waits (is_overgrown l t s) l t s c (taken l c past) (stream l c past)
+      (action_waits l t s c (taken l c past) (stream l c past)
       (taken_le l past c) (waits past))
   waits (Take id max ∷ past) =
       rw (stream_take l past c id max)

@@ -14,7 +14,7 @@ use Rattle.command_words.specs.declared.command.Signalled.{Signalled}
 use Rattle.command_words.specs.declared.command.Signalled.TheVariants as signalled
 use Rattle.serial_model.specs.Tracking.{without_signalled}
 use Rattle.serial_model.specs.State.{State, for_each}
-use Rattle.serial_model.specs.Actions.{Action, action_leaves, ends, is_overgrown, rows_grown}
+use Rattle.serial_model.specs.Actions.{Action, action_leaves, ends, rows_grown}
 use Rattle.serial_model.specs.History.{state, table, run_action, tick_action, table_then, expired}
 
 module _ (p : Held → Bool) where
@@ -56,10 +56,10 @@ pub none_dropped : (limit : ℕ) (rows : List Held) → length rows ≤ limit �
 none_dropped limit rows le =
     ap (λ n. take n rows) (let e : length rows - limit ≡ 0 = omega (arith, le) in e)
 
-action_within : (o : ℕ → Bool) (l : Limits) (t : Action) (s : State)
-    → length (action_leaves o l t s).table ≤ l.table_max
-action_within o l t s =
-    let a = each_without_within (ends o t s) (kept l.table_max (rows_grown t s)) in
+action_within : (l : Limits) (t : Action) (s : State)
+    → length (action_leaves l t s).table ≤ l.table_max
+action_within l t s =
+    let a = each_without_within (ends l t s) (kept l.table_max (rows_grown t s)) in
     let b = kept_within l.table_max (rows_grown t s) in omega (arith, a, b)
 
 module _ (l : Limits) where
@@ -69,10 +69,10 @@ module _ (l : Limits) where
   table_within (Admit id ∷ past) = table_within past
   table_within (Run id words m ∷ past) =
       let t = run_action id words m (state l past) in
-      action_within (is_overgrown l t (state l past)) l t (state l past)
+      action_within l t (state l past)
   table_within (Tick m ∷ past) =
       let t = tick_action m (state l past) in
-      action_within (is_overgrown l t (state l past)) l t (state l past)
+      action_within l t (state l past)
   table_within (Take id max ∷ past) = table_within past
   table_within (Close id ∷ past) =
       let a = without_within id (table l past) in

@@ -2,13 +2,12 @@
 use Rattle.std.proofs.Common.{◌≡◌, ◌≤◌, ◌-◌, ℕ, zero, suc, List, [], ◌∷◌, Bool, true, false}
 use Rattle.std.proofs.Common.{cond, length}
 use Rattle.std.proofs.Common.{take, refl, sym, ap, subst, ◌∙◌, arith, inl, inr, None, ◌⊎◌}
-use Rattle.std.specs.Prelude.{◌==◌, ◌&&◌, ◌||◌, not, filter, map}
+use Rattle.std.specs.Prelude.{◌==◌, ◌&&◌, ◌||◌, not, filter, map, nat_le, nat_lt}
 use Rattle.std.specs.List.{list_any}
 use Rattle.std.specs.Str.{bytes_eq}
 use Rattle.std.proofs.lemmas.Bool.{eqb-true, and_parts, and_from, or_left, or_right}
 use Rattle.std.proofs.lemmas.Bool.{or_cases}
 use Rattle.std.proofs.lemmas.Bool.{both_ways, not-true, cases_Bool}
-use Rattle.std.proofs.lemmas.Bool.Decides.{nat_tests}
 use Rattle.std.proofs.lemmas.List.Folds.{list_any-append}
 use Rattle.std.proofs.lemmas.Slice.Eq.{bytes_eq-Decides}
 use Rattle.command_words.specs.declared.command.Signalled.{Signalled}
@@ -34,7 +33,7 @@ use Rattle.serial_model.specs.Each.{AllIn, AllRows, AllRegistered}
 use Rattle.serial_model.specs.History.{state, run_action, tick_action, action_told}
 use Rattle.serial_model.specs.Laws.{is_among, is_forgets, has_prefix_of, is_told_in, signals_to}
 use Rattle.serial_model.specs.Laws.{action_signals_to, ToldIsDue}
-use Rattle.serial_model.proofs.Fresh.{among_ids}
+use Rattle.serial_model.proofs.Ends.{ids_test}
 use Rattle.serial_model.proofs.KeyHolders.{keys_apart, signalled_apart, remembering_keeps}
 use Rattle.serial_model.proofs.KeyHolders.{remembered_own, drop_tells, flush_tells, whole_tells}
 use Rattle.serial_model.proofs.KeyHolders.{with_keys_keeps}
@@ -178,8 +177,8 @@ module _ (l : Limits) (t : Action) (s : State) (c : ℕ) (key : List ℕ) (a : A
   all_told : list_any (tells c key) (told_to None (ids_where (tracks s) s.admitted)) ≡ true
   all_told =
       flush_tells c key (ids_where (tracks s) s.admitted)
-      (among_ids (tracks s) c s.admitted
-      (let on = parts.0 in grind (arith, nat_tests)) (let on = parts.0 in grind (arith, nat_tests))
+      (ids_test (tracks s) c s.admitted
+      ∙ and_from _ _ (and_parts (nat_lt 0 c && nat_le c s.admitted) _ parts.0).0
       (and_from _ _ did_track parts.0))
 
   first_tells : is_among t.expired key ≡ true → list_any (tells c key) (expiry_told t s) ≡ true

@@ -10,6 +10,7 @@ use Rattle.command_words.specs.declared.command.Command.TheVariants.{ClientId, C
 use Rattle.command_words.specs.declared.command.Command.TheVariants.{ClientCaching, ClientGetRedir}
 use Rattle.command_words.specs.declared.command.Command.TheVariants.{ClientTrackingInfo}
 use Rattle.command_words.specs.declared.command.Command.TheVariants.{Subscribe, Unsubscribe}
+use Rattle.command_words.specs.declared.command.Command.TheVariants.{Shutdown}
 use Rattle.command_words.specs.declared.command.TrackOptions.{TrackOptions}
 use Rattle.command_words.specs.declared.command.WordFault.{WordFault}
 use Rattle.command_words.specs.declared.command.WordFault.TheVariants.{Unknown}
@@ -32,7 +33,6 @@ use Rattle.serial_model.specs.State.{State, at}
 use Rattle.serial_model.specs.Tracking.{remembering, registering, without_signalled}
 use Rattle.serial_model.specs.Actions.{Action, action_leaves, modes_then, rows_then, rows_grown}
 use Rattle.serial_model.specs.Actions.{ends}
-use Rattle.serial_model.specs.Actions.{is_overgrown}
 use Rattle.serial_model.specs.Each.{AllRows, AllRegistered}
 use Rattle.serial_model.specs.History.{state, made_of, runner_in, run_action, tick_action, served}
 use Rattle.serial_model.specs.History.{is_served}
@@ -73,6 +73,7 @@ changed_own (Hello None) m is none = (refl, reads_track m [])
 changed_own (Hello (Some word)) m is none = (refl, reads_track m [])
 changed_own Reset m is none = tt
 changed_own Quit m is none = (refl, reads_track m [])
+changed_own (Shutdown mode) m is none = (refl, reads_track m [])
 changed_own ClientId m is none = (refl, reads_track m [])
 changed_own (ClientTracking options) m is none = tracking_own options m
 changed_own (ClientCaching is_yes) m is none = (refl, reads_track m [])
@@ -178,16 +179,16 @@ grown_tracks t s own a =
     (without_signalled_all (Tracks s.modes) t.effect.signalled (rows_then t s)
     (without_keys_all (Tracks s.modes) t.expired s.table a.of_keys))
 
-action_tracks : (o : ℕ → Bool) (l : Limits) (t : Action) (s : State)
+action_tracks : (l : Limits) (t : Action) (s : State)
     → Own t.effect.memory (s.modes t.by) t.effect.mode → AllTrack s
-    → AllTrack (action_leaves o l t s)
-action_tracks o l t s own a =
+    → AllTrack (action_leaves l t s)
+action_tracks l t s own a =
     record {
-      of_keys = each_left_all (Tracks (modes_then t s)) (ends o t s)
+      of_keys = each_left_all (Tracks (modes_then t s)) (ends l t s)
           (kept l.table_max (rows_grown t s))
           (kept_all (Tracks (modes_then t s)) l.table_max (rows_grown t s)
           (grown_tracks t s own a));
-      of_prefixes = each_unregistered_all (Tracks (modes_then t s)) (ends o t s)
+      of_prefixes = each_unregistered_all (Tracks (modes_then t s)) (ends l t s)
           (registering t.by t.effect.memory s.prefixes)
           (registering_tracks t.by t.effect.mode s.modes t.effect.memory s.prefixes own
           a.of_prefixes);
@@ -200,12 +201,12 @@ all_track l (Admit id ∷ past) = all_track l past
 all_track l (Run id words moment ∷ past) =
     let s = state l past in
     let t = run_action id words moment s in
-    action_tracks (is_overgrown l t s) l t s (made_tracks words (runner_in s id words moment))
+    action_tracks l t s (made_tracks words (runner_in s id words moment))
     (all_track l past)
 all_track l (Tick moment ∷ past) =
     let s = state l past in
     let t = tick_action moment s in
-    action_tracks (is_overgrown l t s) l t s (refl, no_keys) (all_track l past)
+    action_tracks l t s (refl, no_keys) (all_track l past)
   where
     no_keys : {A : Type 0} → 0 < 0 → A
     no_keys lt = absurd (omega (arith, lt))

@@ -15,8 +15,8 @@ use Rattle.serial_model.specs.declared.history.BookReply.{BookReply}
 use Rattle.serial_model.specs.declared.history.BookReply.TheVariants.{Ticked, Bytes, Refused}
 use Rattle.serial_model.specs.declared.history.BookRefusal.TheVariants.{NoMemory}
 use Rattle.serial_model.specs.History.{admitted, runs_on, reads_on, gives_on, latest}
-use Rattle.serial_model.specs.History.{stream, taken, unsent, runs_of, IsLegal, expired}
-use Rattle.serial_model.specs.Steps.{Turn, gone, admitting, running, closing, book_step}
+use Rattle.serial_model.specs.History.{stream, taken, unsent, runs_of, IsLegal, expired, is_stopped}
+use Rattle.serial_model.specs.Steps.{Turn, gone, stopped, admitting, running, closing, book_step}
 use Rattle.serial_model.specs.Steps.{BookStep, Turns, given_by, given, ran_by, answered}
 use Rattle.serial_model.specs.Laws.{IsAdded}
 use Rattle.serial_model.proofs.Streams.{some_kept, stream_more, stream_take, taken_le, unsent_kept}
@@ -72,14 +72,15 @@ module _ (l : Limits) where
       → Gives c past call (book_step l past call)
   unfolding Gives
   step_gives c past Admit =
-      by_admit l past (Gives c past Admit)
-      (first_same c past (entry.Admit (admitted past + 1)) refl)
+      by_admit l past (Gives c past Admit) (append-nil (first c past))
+      (λ on. first_same c past (entry.Admit (admitted past + 1)) refl)
   step_gives c past (Run id words now) =
       by_run l past (Gives c past (Run id words now)) id words now (append-nil (first c past))
       (λ on. first_same c past (entry.Run id words (max now (latest past))) refl)
   step_gives c past (Tick now) =
       by_tick l past (Gives c past (Tick now)) now (append-nil (first c past))
-      (λ some. first_same c past (entry.Tick (max now (latest past))) refl)
+      (append-nil (first c past))
+      (λ on some. first_same c past (entry.Tick (max now (latest past))) refl)
   step_gives c past (Take id most) =
       by_take l past (Gives c past (Take id most)) id most (append-nil (first c past))
       (append-nil (first c past))
@@ -128,12 +129,13 @@ module _ (l : Limits) where
       → Runs c past call (book_step l past call)
   unfolding Runs
   runs_step c past Admit =
-      by_admit l past (Runs c past Admit) (append-nil _)
+      by_admit l past (Runs c past Admit) (append-nil _) (λ on. append-nil _)
   runs_step c past (Run id words now) =
       by_run l past (Runs c past (Run id words now)) id words now (append-nil _)
       (grind (arith, append-nil))
   runs_step c past (Tick now) =
-      by_tick l past (Runs c past (Tick now)) now (append-nil _) (λ some. append-nil _)
+      by_tick l past (Runs c past (Tick now)) now (append-nil _) (append-nil _)
+      (λ on some. append-nil _)
   runs_step c past (Take id most) =
       by_take l past (Runs c past (Take id most)) id most (append-nil _) (append-nil _)
       (λ on some. append-nil _)
@@ -170,13 +172,13 @@ module _ (l : Limits) where
   pub step_legal : (past : List Entry) (call : BookCall) → IsLegal l past
       → IsLegal l (book_step l past call).past
   step_legal past Admit h =
-      by_admit l past (λ t. IsLegal l t.past) (refl, h)
+      by_admit l past (λ t. IsLegal l t.past) h (λ on. (on, refl, h))
   step_legal past (Run id words now) h =
       by_run l past (λ t. IsLegal l t.past) id words now h
       (λ on. (on, omega arith, h))
   step_legal past (Tick now) h =
-      by_tick l past (λ t. IsLegal l t.past) now h
-      (λ some. (some, omega arith, h))
+      by_tick l past (λ t. IsLegal l t.past) now h h
+      (λ on some. (on, some, omega arith, h))
   step_legal past (Take id most) h =
       by_take l past (λ t. IsLegal l t.past) id most h h (λ on some. (on, some, h))
   step_legal past (Close id) h =
@@ -184,9 +186,10 @@ module _ (l : Limits) where
 
   -- ---- the step, where its questions are answered
 
-  pub admit_step : (past : List Entry) → book_step l past Admit ≡ admitting past
+  pub admit_step : (past : List Entry) → is_stopped l past ≡ false
+      → book_step l past Admit ≡ admitting past
   unfolding book_step
-  admit_step past = refl
+  admit_step past on = ap (λ b. cond b (stopped past) (admitting past)) on
 
   pub run_step : (past : List Entry) (id now : ℕ) (words : List (List ℕ)) → runs_on l past id ≡ true
       → book_step l past (Run id words now) ≡ running past id words now
@@ -194,14 +197,14 @@ module _ (l : Limits) where
   run_step past id now words on = grind arith
 
   pub tick_step : (past : List Entry) (now : ℕ) (key : List ℕ) (keys : List (List ℕ))
-      → expired l past (max now (latest past)) ≡ key ∷ keys
+      → is_stopped l past ≡ false → expired l past (max now (latest past)) ≡ key ∷ keys
       → book_step l past (Tick now)
       ≡ record {
         reply = Ticked (length past + 1);
         past = entry.Tick (max now (latest past)) ∷ past;
       }
   unfolding book_step
-  tick_step past now key keys e = grind arith
+  tick_step past now key keys on e = grind arith
 
   pub take_step : (past : List Entry) (id most b : ℕ) (bytes : List ℕ) → gives_on l past id ≡ true
       → take most (unsent l id past) ≡ b ∷ bytes
@@ -226,20 +229,20 @@ module _ (l : Limits) where
       → (book_step l past (Take id most)).past ≡ entry.Take id most ∷ past
   take_added past id most bytes e some on = grind (arith, take_step)
 
-  tick_added : (past : List Entry) (now : ℕ) (keys : List (List ℕ))
+  tick_added : (past : List Entry) (now : ℕ) (keys : List (List ℕ)) → is_stopped l past ≡ false
       → expired l past (max now (latest past)) ≡ keys → (keys ≡ [] → ⊥)
       → (book_step l past (Tick now)).past ≡ entry.Tick (max now (latest past)) ∷ past
-  tick_added past now [] e some = absurd (some refl)
-  tick_added past now (key ∷ keys) e some = grind (arith, tick_step)
+  tick_added past now [] on e some = absurd (some refl)
+  tick_added past now (key ∷ keys) on e some = grind (arith, tick_step)
 
   added : (past : List Entry) → IsLegal l past → IsAdded l past
   added [] h = tt
   added (entry.Admit id ∷ past) h = (
-    h.1,
+    h.2,
     Admit,
     tt,
-    ap (λ (t : Turn). t.past) (admit_step past)
-        ∙ ap (λ i. entry.Admit i ∷ past) (sym h.0),
+    ap (λ (t : Turn). t.past) (admit_step past h.0)
+        ∙ ap (λ i. entry.Admit i ∷ past) (sym h.1),
   )
   added (entry.Run id words moment ∷ past) h = (
     h.2,
@@ -250,8 +253,8 @@ module _ (l : Limits) where
         ≡ moment = omega arith in e),
   )
   added (entry.Tick moment ∷ past) h =
-      let e : max moment (latest past) ≡ moment = let le = h.1 in omega (arith, le) in (
-        h.2,
+      let e : max moment (latest past) ≡ moment = let le = h.2 in omega (arith, le) in (
+        h.3,
         Tick moment,
         tt,
         grind (arith, tick_added),

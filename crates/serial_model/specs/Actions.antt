@@ -154,31 +154,30 @@ abbrev pub messages : Limits → Action → State → List (ℕ × Sending)
 messages l t s = heard s (all_messages l t s)
 
 -- more bytes wait for a connection than the limit (client-output-buffer-limit)
-abbrev pub passes_limit : Limits → Action → State → ℕ → Bool
-passes_limit l t s c = nat_lt l.out_max (s.waiting c + length (bytes_to c (messages l t s)))
-
--- no connection ends for that yet: no line of a transcript is there to tell of it
 abbrev pub is_overgrown : Limits → Action → State → ℕ → Bool
-is_overgrown l t s c = false
+is_overgrown l t s c = nat_lt l.out_max (s.waiting c + length (bytes_to c (messages l t s)))
 
 abbrev pub quits : Action → ℕ → Bool
 quits t c = (t.by == c) && is_quitting t.effect.ending
 
 -- the connections that end by an action: one that quits; all at a SHUTDOWN; those that are
 -- overgrown
-abbrev pub ends : (ℕ → Bool) → Action → State → List ℕ
-ends overgrown t s =
-    ids_where (λ c. is_live (s.standing c)
-    && (quits t c || is_stopping t.effect.ending || overgrown c)) s.admitted
+abbrev pub is_ending : Limits → Action → State → ℕ → Bool
+is_ending l t s c =
+    is_live (s.standing c)
+    && (quits t c || is_stopping t.effect.ending || is_overgrown l t s c)
 
-abbrev pub action_sends : (ℕ → Bool) → Limits → Action → State → List (ℕ × Sending)
-action_sends overgrown l t s = messages l t s ++ map (λ c. (c, End)) (ends overgrown t s)
+abbrev pub ends : Limits → Action → State → List ℕ
+ends l t s = ids_where (is_ending l t s) s.admitted
+
+abbrev pub action_sends : Limits → Action → State → List (ℕ × Sending)
+action_sends l t s = messages l t s ++ map (λ c. (c, End)) (ends l t s)
 
 -- ---- what an action leaves
 
-abbrev pub standing_after : (ℕ → Bool) → Action → State → ℕ → Standing
-standing_after overgrown t s c =
-    if has_id c (ends overgrown t s) then (if quits t c then Quit else Gone) else s.standing c
+abbrev pub standing_after : Limits → Action → State → ℕ → Standing
+standing_after l t s c =
+    if has_id c (ends l t s) then (if quits t c then Quit else Gone) else s.standing c
 
 abbrev pub broken_after : Limits → Action → State → ℕ → Bool
 broken_after l t s c =
@@ -186,23 +185,23 @@ broken_after l t s c =
     else s.broken c || are_lost s.modes (is_on s) (expiry_told t s) c)
     || are_lost (modes_then t s) (is_on s) (later_told l t s) c
 
-abbrev pub waiting_after : (ℕ → Bool) → Limits → Action → State → ℕ → ℕ
-waiting_after overgrown l t s c =
-    if keeps_bytes (standing_after overgrown t s c)
-    then s.waiting c + length (bytes_to c (action_sends overgrown l t s)) else 0
+abbrev pub waiting_after : Limits → Action → State → ℕ → ℕ
+waiting_after l t s c =
+    if keeps_bytes (standing_after l t s c)
+    then s.waiting c + length (bytes_to c (action_sends l t s)) else 0
 
-abbrev pub action_leaves : (ℕ → Bool) → Limits → Action → State → State
-action_leaves overgrown l t s =
+abbrev pub action_leaves : Limits → Action → State → State
+action_leaves l t s =
     record {
       space = t.effect.space;
       admitted = s.admitted;
       latest = t.moment;
       modes = modes_then t s;
-      standing = standing_after overgrown t s;
+      standing = standing_after l t s;
       broken = broken_after l t s;
-      waiting = waiting_after overgrown l t s;
-      table = for_each without_connection (ends overgrown t s) (kept l.table_max (rows_grown t s));
-      prefixes = for_each registrations.without_connection (ends overgrown t s)
+      waiting = waiting_after l t s;
+      table = for_each without_connection (ends l t s) (kept l.table_max (rows_grown t s));
+      prefixes = for_each registrations.without_connection (ends l t s)
           (registering t.by t.effect.memory s.prefixes);
       stopped = s.stopped || is_stopping t.effect.ending;
     }

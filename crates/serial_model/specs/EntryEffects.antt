@@ -1,7 +1,7 @@
 -- The effect of an entry: its number and its connection, the command that ran, the keys that left
 -- before it, its reply, and what it signals.
 use Rattle.std.specs.Prelude.{◌+◌, ℕ, List, [], ◌∷◌, length, take, Option, Some, None, Result, Ok}
-use Rattle.std.specs.Prelude.{Err, filter, not, if◌then◌else◌}
+use Rattle.std.specs.Prelude.{Err, Bool, false, ◌||◌, filter, not, if◌then◌else◌}
 use Rattle.command_words.specs.declared.command.Command.{Command}
 use Rattle.command_words.specs.declared.command.Signalled.TheVariants.{Keys}
 use Rattle.command_words.specs.declared.command.WordFault.{WordFault}
@@ -14,7 +14,8 @@ use Rattle.serial_model.specs.declared.history.Limits.{Limits}
 use Rattle.serial_model.specs.declared.history.Entry.{Entry}
 use Rattle.serial_model.specs.declared.history.Entry.TheVariants.{Admit, Run, Tick, Take, Close}
 use Rattle.serial_model.specs.State.{State}
-use Rattle.serial_model.specs.Actions.{Action, quits, ends, is_overgrown}
+use Rattle.serial_model.specs.Tracking.{has_id}
+use Rattle.serial_model.specs.Actions.{Action, quits, ends}
 use Rattle.serial_model.specs.History.{expired, served_reading, state, run_action, tick_action}
 use Rattle.serial_model.specs.History.{unsent}
 
@@ -64,9 +65,9 @@ unfoldable pub last_effect : Limits → List Entry → Option Effect
 last_effect l [] = None
 last_effect l (entry ∷ past) = Some (effect_at l entry past)
 
--- those whom an action ends though they do not ask for it
+-- those whom an action drops: it ends them, and they do not quit by it
 abbrev pub action_drops : Limits → Action → State → List ℕ
-action_drops l t s = filter (λ c. not (quits t c)) (ends (is_overgrown l t s) t s)
+action_drops l t s = filter (λ c. not (quits t c)) (ends l t s)
 
 abbrev pub drops_at : Limits → Entry → State → List ℕ
 drops_at l (Run id words moment) s = action_drops l (run_action id words moment s) s
@@ -77,3 +78,11 @@ drops_at l _ s = []
 unfoldable pub dropped_by : Limits → List Entry → List ℕ
 dropped_by l [] = []
 dropped_by l (entry ∷ past) = drops_at l entry (state l past)
+
+-- an entry drops the connection; one of a past did
+abbrev pub drops_one : Limits → Entry → List Entry → ℕ → Bool
+drops_one l entry past c = has_id c (drops_at l entry (state l past))
+
+abbrev pub was_dropped : Limits → ℕ → List Entry → Bool
+was_dropped l c [] = false
+was_dropped l c (entry ∷ past) = was_dropped l c past || drops_one l entry past c

@@ -1,11 +1,12 @@
 -- What a history says. A past is a list of entries, the newest first; entries, connections and the
 -- runs of words are numbered from 1, and 0 is no number.
 use Rattle.std.specs.Prelude.{◌≡◌, ◌+◌, ◌-◌, ◌≤◌, ◌&&◌, ◌||◌, ◌==◌, ℕ, List, [], ◌∷◌, ◌++◌, Bool}
-use Rattle.std.specs.Prelude.{true, not, if◌then◌else◌, nat_lt, nat_le, length, min, take}
+use Rattle.std.specs.Prelude.{true, false, not, if◌then◌else◌, nat_lt, nat_le, length, min, take}
 use Rattle.std.specs.Prelude.{drop, Option, Some, None, codes, pos}
 use Rattle.std.specs.Prelude.{Ok, Err, Result}
 use Rattle.std.specs.List.{flat_map}
-use Rattle.resp_value.specs.declared.value.Value.TheVariants.{Blob, Error, Map, Number, Simple}
+use Rattle.resp_value.specs.declared.value.Value.TheVariants.{Blob, Error, Map, Null, Number}
+use Rattle.resp_value.specs.declared.value.Value.TheVariants.{Simple}
 use Rattle.resp_value.specs.declared.value.Proto.{Proto}
 use Rattle.command_words.specs.declared.command.Command.{Command}
 use Rattle.command_words.specs.declared.command.Command.TheVariants.{Ping, Echo, Hello, Reset, Quit}
@@ -13,6 +14,7 @@ use Rattle.command_words.specs.declared.command.Command.TheVariants.{ClientId, C
 use Rattle.command_words.specs.declared.command.Command.TheVariants.{ClientCaching, ClientGetRedir}
 use Rattle.command_words.specs.declared.command.Command.TheVariants.{ClientTrackingInfo}
 use Rattle.command_words.specs.declared.command.Command.TheVariants.{Subscribe, Unsubscribe}
+use Rattle.command_words.specs.declared.command.Command.TheVariants.{Shutdown}
 use Rattle.command_words.specs.declared.command.Signalled.{Signalled}
 use Rattle.command_words.specs.declared.command.Signalled.TheVariants.{Keys}
 use Rattle.command_words.specs.declared.command.WordFault.{WordFault}
@@ -32,14 +34,15 @@ use Rattle.serial_model.specs.Modes.{hello, hello_reply, accepted, target_of}
 use Rattle.serial_model.specs.Modes.{pong, redirect_number, tracking_info, subscribe_reply}
 use Rattle.serial_model.specs.Modes.{unsubscribe_reply}
 use Rattle.serial_model.specs.Modes.{Runner, OwnEffect, own_effect, refused_effect, Remembers}
-use Rattle.serial_model.specs.Modes.{is_barred, ending_of, Stays, is_quitting, is_stopping}
+use Rattle.serial_model.specs.Modes.{Ending, ending_of, Stays, is_barred, is_quitting}
+use Rattle.serial_model.specs.Modes.{is_stopping}
 use Rattle.serial_model.specs.Deadlines.{due_keys}
 use Rattle.serial_model.specs.Tracking.{Invalidation, whole_group}
 use Rattle.serial_model.specs.State.{State, start, is_on, is_live, keeps_bytes, may_take}
 use Rattle.serial_model.specs.State.{closed, at}
 pub use Rattle.serial_model.specs.Actions.{Sending, Message, End, spelled, sending_bytes, routed}
 use Rattle.serial_model.specs.Actions.{Action, ActionEffect, replies, action_sends, action_leaves}
-use Rattle.serial_model.specs.Actions.{is_overgrown, are_lost, expiry_told}
+use Rattle.serial_model.specs.Actions.{are_lost, expiry_told}
 use Rattle.serial_model.specs.Actions.{own_told, later_told, rows_grown, tracks}
 use Rattle.serial_model.specs.declared.history.Limits.{Limits}
 use Rattle.serial_model.specs.declared.history.Entry.{Entry}
@@ -79,6 +82,7 @@ is_served (Echo text) = true
 is_served (Hello word) = true
 is_served Reset = true
 is_served Quit = true
+is_served (Shutdown mode) = true
 is_served ClientId = true
 is_served (ClientTracking options) = true
 is_served (ClientCaching is_yes) = true
@@ -104,6 +108,7 @@ effect_of by words (Ok (Hello word)) space moment =
     replied (hello_reply by.id (hello word by.mode.proto)) space
 effect_of by words (Ok Reset) space moment = replied (Simple (codes "RESET")) space
 effect_of by words (Ok Quit) space moment = replied (Simple (codes "OK")) space
+effect_of by words (Ok (Shutdown mode)) space moment = replied Null space
 effect_of by words (Ok ClientId) space moment = replied (Number (pos by.id)) space
 effect_of by words (Ok (ClientTracking options)) space moment =
     replied (accepted (fault_at (ClientTracking options) by.target_exists by.mode)) space
@@ -132,7 +137,11 @@ made_of words by =
     if is_barred by.mode (served_reading words) then refused_effect by.mode
     else own_effect (served_reading words) by
 
--- the words end the connection that runs them
+-- how connections end by words that are run in a mode; a command that it does not allow ends none
+abbrev pub ending_in : ModeState → Result Command WordFault → Ending
+ending_in m read = if is_barred m read then Stays else ending_of read
+
+-- the words end the connection that runs them; every mode allows them
 abbrev pub is_quit : List (List ℕ) → Bool
 is_quit words = is_quitting (ending_of (served_reading words))
 
@@ -157,13 +166,13 @@ runner_in s id words moment =
       target_exists = is_target s (target_of (served_reading words));
     }
 
--- SHUTDOWN is not answered
+-- a SHUTDOWN that stops the server is not answered
 abbrev pub effect_in : State → ℕ → List (List ℕ) → ℕ → ActionEffect
 effect_in s id words moment =
     let by = runner_in s id words moment in
     let ran = ran_over (without_due moment s.space) by words moment in
     let made = made_of words by in
-    let ending = ending_of (served_reading words) in
+    let ending = ending_in by.mode (served_reading words) in
     record {
       reply = if is_stopping ending then None else Some ran.reply;
       signalled = ran.signalled;
@@ -205,9 +214,9 @@ tick_action moment s =
 abbrev pub sends : Limits → Entry → State → List (ℕ × Sending)
 sends l (Admit id) s = []
 sends l (Run id words moment) s =
-    let t = run_action id words moment s in action_sends (is_overgrown l t s) l t s
+    let t = run_action id words moment s in action_sends l t s
 sends l (Tick moment) s =
-    let t = tick_action moment s in action_sends (is_overgrown l t s) l t s
+    let t = tick_action moment s in action_sends l t s
 sends l (Take id max) s = []
 sends l (Close id) s = if is_live (s.standing id) then (id, End) ∷ [] else []
 
@@ -215,9 +224,9 @@ sends l (Close id) s = if is_live (s.standing id) then (id, End) ∷ [] else []
 abbrev pub next : Limits → Entry → State → State
 next l (Admit id) s = record s { admitted = s.admitted + 1 }
 next l (Run id words moment) s =
-    let t = run_action id words moment s in action_leaves (is_overgrown l t s) l t s
+    let t = run_action id words moment s in action_leaves l t s
 next l (Tick moment) s =
-    let t = tick_action moment s in action_leaves (is_overgrown l t s) l t s
+    let t = tick_action moment s in action_leaves l t s
 next l (Take id max) s = record s { waiting = at id (s.waiting id - max) s.waiting }
 next l (Close id) s =
     record s {
@@ -252,6 +261,10 @@ protocol l c past = (mode l c past).proto
 
 abbrev pub has_ended : Limits → ℕ → List Entry → Bool
 has_ended l c past = not (is_live ((state l past).standing c))
+
+-- a SHUTDOWN ran
+abbrev pub is_stopped : Limits → List Entry → Bool
+is_stopped l past = (state l past).stopped
 
 -- a connection that tracks and has not ended
 abbrev pub is_tracking : Limits → List Entry → ℕ → Bool
@@ -400,15 +413,16 @@ run_entries c (Close id ∷ past) = run_entries c past
 
 -- each entry is one that a turn adds there: an Admit has the next id; a Run, a Take and a Close are
 -- of a connection that may do so; moments never fall; a Tick takes out a key, and a Take takes
--- something
+-- something; behind a SHUTDOWN there is no Admit and no Tick
 abbrev pub IsLegal : Limits → List Entry → Type 0
 IsLegal l [] = Unit {0}
 IsLegal l (Admit id ∷ past) =
-    (id ≡ admitted past + 1) × IsLegal l past
+    (is_stopped l past ≡ false) × (id ≡ admitted past + 1) × IsLegal l past
 IsLegal l (Run id words moment ∷ past) =
     (runs_on l past id ≡ true) × (latest past ≤ moment) × IsLegal l past
 IsLegal l (Tick moment ∷ past) =
-    (expired l past moment ≡ [] → ⊥) × (latest past ≤ moment) × IsLegal l past
+    (is_stopped l past ≡ false) × (expired l past moment ≡ [] → ⊥) × (latest past ≤ moment)
+    × IsLegal l past
 IsLegal l (Take id max ∷ past) =
     (gives_on l past id ≡ true) × (take max (unsent l id past) ≡ [] → ⊥) × IsLegal l past
 IsLegal l (Close id ∷ past) = (reads_on l past id ≡ true) × IsLegal l past

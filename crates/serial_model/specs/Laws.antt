@@ -1,7 +1,7 @@
 -- What holds of every history that turns make, read off the definitions alone.
 use Rattle.std.specs.Prelude.{◌≡◌, ◌==◌, ◌↔◌, ◌⊎◌, ◌<◌, ◌≤◌, ◌+◌, ◌||◌, ◌&&◌, not, ℕ, List, []}
 use Rattle.std.specs.Prelude.{◌∷◌, ◌++◌, Bool, true, false, filter, take, length, All, nat_eq}
-use Rattle.std.specs.Prelude.{Option, Some, None, is_some, Result, Ok, if◌then◌else◌}
+use Rattle.std.specs.Prelude.{nat_lt, Option, Some, None, is_some, Result, Ok, if◌then◌else◌}
 use Rattle.std.specs.List.{list_any, starts_with}
 use Rattle.std.specs.Str.{bytes_eq}
 use Rattle.resp_value.specs.Lists.{IsPrefix}
@@ -9,7 +9,7 @@ use Rattle.resp_value.specs.declared.value.Proto.{Proto}
 use Rattle.resp_value.specs.declared.value.Proto.TheVariants.{Two, Three}
 use Rattle.command_words.specs.declared.command.Command.{Command}
 use Rattle.command_words.specs.declared.command.Command.TheVariants.{ClientCaching, ClientTracking}
-use Rattle.command_words.specs.declared.command.Command.TheVariants.{Reset}
+use Rattle.command_words.specs.declared.command.Command.TheVariants.{Reset, Shutdown}
 use Rattle.command_words.specs.declared.command.WordFault.{WordFault}
 use Rattle.command_words.specs.declared.command.Signalled.{Signalled}
 use Rattle.command_words.specs.declared.command.Signalled.TheVariants as signalled
@@ -40,9 +40,10 @@ use Rattle.serial_model.specs.Tracking.{tells, names_key, has_id}
 use Rattle.serial_model.specs.State.{State, Live, is_on}
 use Rattle.serial_model.specs.Actions.{Action, Sending, Message, End, routed, heard, messages}
 use Rattle.serial_model.specs.Actions.{modes_then}
-use Rattle.serial_model.specs.Actions.{all_messages, route_at, is_passed, passes_limit}
-use Rattle.serial_model.specs.Actions.{action_leaves}
+use Rattle.serial_model.specs.Actions.{all_messages, route_at, is_passed}
+use Rattle.serial_model.specs.EntryEffects.{dropped_by}
 use Rattle.serial_model.specs.History.{admitted, is_admitted, has_ended, runs_on, sends, sent}
+use Rattle.serial_model.specs.History.{is_quit, is_stopped, protocol, sent_bytes}
 use Rattle.serial_model.specs.History.{state}
 use Rattle.serial_model.specs.History.{stream, taken, unsent, runs_of, posted, posted_of, IsLegal}
 use Rattle.serial_model.specs.History.{mode, modes, reply_of, ran, effect_in}
@@ -207,13 +208,73 @@ abbrev pub CloseGivesUp : Type 0
 CloseGivesUp =
     (l : Limits) (c : ℕ) (past : List Entry) → unsent l c (entry.Close c ∷ past) ≡ []
 
--- Where connections for which more bytes wait than the limit end, no more wait for one that has not
--- ended.
+-- No more bytes wait for a connection that has not ended than the limit.
 abbrev pub LimitIsKept : Type 0
 LimitIsKept =
-    (l : Limits) (t : Action) (s : State) (c : ℕ)
-    → is_on (action_leaves (passes_limit l t s) l t s) c ≡ true
-    → (action_leaves (passes_limit l t s) l t s).waiting c ≤ l.out_max
+    (l : Limits) (c : ℕ) (past : List Entry)
+    → has_ended l c past ≡ false → length (unsent l c past) ≤ l.out_max
+
+-- the words are SHUTDOWN, which this mode allows
+abbrev pub stops : Result Command WordFault → ModeState → Bool
+stops (Ok (Shutdown saving)) m = not (is_confined m)
+stops read m = false
+
+abbrev pub is_shutdown : Limits → Entry → List Entry → Bool
+is_shutdown l (entry.Run id words moment) past = stops (reading words) (mode l id past)
+is_shutdown l _ past = false
+
+abbrev pub has_shutdown : Limits → List Entry → Bool
+has_shutdown l [] = false
+has_shutdown l (entry ∷ past) = is_shutdown l entry past || has_shutdown l past
+
+-- The server is stopped exactly where a SHUTDOWN ran (the page of SHUTDOWN).
+abbrev pub StoppedIsShutdown : Type 0
+StoppedIsShutdown = (l : Limits) (past : List Entry) → is_stopped l past ≡ has_shutdown l past
+
+-- Every connection has ended by then.
+abbrev pub StoppedHasEnded : Type 0
+StoppedHasEnded =
+    (l : Limits) (c : ℕ) (past : List Entry)
+    → IsLegal l past → is_stopped l past ≡ true → runs_on l past c ≡ false
+
+-- the entry is a Run by which the connection quits; its Close
+abbrev pub quits_by : Entry → ℕ → Bool
+quits_by (entry.Run id words moment) c = (id == c) && is_quit words
+quits_by _ c = false
+
+abbrev pub closes_by : Entry → ℕ → Bool
+closes_by (entry.Close id) c = id == c
+closes_by _ c = false
+
+-- how many bytes wait for a connection with those that an entry sends it
+abbrev pub waiting_with : Limits → Entry → List Entry → ℕ → ℕ
+waiting_with l entry past c =
+    length (unsent l c past)
+    + length (sent_bytes (sent_to (length past + 1) c (sends l entry (state l past))))
+
+-- A connection that had not ended is dropped exactly by a SHUTDOWN, or where more bytes wait for it
+-- than the limit; but not by the entry by which it quits.
+abbrev pub DropIsCaused : Type 0
+DropIsCaused =
+    (l : Limits) (c : ℕ) (entry : Entry) (past : List Entry)
+    → runs_on l past c ≡ true
+    → has_id c (dropped_by l (entry ∷ past))
+    ≡ ((is_shutdown l entry past || nat_lt l.out_max (waiting_with l entry past c))
+    && not (quits_by entry c))
+
+-- One that had not ended ends exactly where it is dropped, quits or is closed.
+abbrev pub EndIsCaused : Type 0
+EndIsCaused =
+    (l : Limits) (c : ℕ) (entry : Entry) (past : List Entry)
+    → runs_on l past c ≡ true
+    → has_ended l c (entry ∷ past)
+    ≡ (has_id c (dropped_by l (entry ∷ past)) || quits_by entry c || closes_by entry c)
+
+-- One that had ended, or was not admitted, is not dropped.
+abbrev pub DropIsOnce : Type 0
+DropIsOnce =
+    (l : Limits) (c : ℕ) (entry : Entry) (past : List Entry)
+    → runs_on l past c ≡ false → has_id c (dropped_by l (entry ∷ past)) ≡ false
 
 -- A connection has what it has as it is admitted.
 pub record IsFirst (s : State) (c : ℕ) : Type 0 where
@@ -432,6 +493,19 @@ DueIsPushed =
     → is_due l entry past c key ≡ true
     → IsToldAmong Three key (length past + 1)
     (sent_to (length past + 1) c (sends l entry (state l past)))
+
+-- A connection that redirects its messages to one that has not ended: this one is sent a message of
+-- each key that an entry tells the connection of, on the third protocol as a push, and on the
+-- second where it is subscribed (the page of CLIENT TRACKING, REDIRECT).
+abbrev pub RedirectedIsSent : Type 0
+RedirectedIsSent =
+    (l : Limits) (entry : Entry) (past : List Entry) (c target : ℕ) (key : List ℕ)
+    → runs_on l past c ≡ true → runs_on l past target ≡ true
+    → redirect_of (mode l c past).tracking ≡ Some target
+    → (protocol l target past ≡ Three) ⊎ ((mode l target past).subscribed ≡ true)
+    → is_due l entry past c key ≡ true
+    → IsToldAmong (protocol l target past) key (length past + 1)
+    (sent_to (length past + 1) target (sends l entry (state l past)))
 
 -- A mode on the third protocol that redirects messages to this connection.
 pub record RedirectsTo (target : ℕ) (m : ModeState) : Type 0 where

@@ -10,9 +10,9 @@ use Rattle.serial_model.specs.declared.history.BookCall.TheVariants.{Close}
 use Rattle.serial_model.specs.declared.history.BookReply.{BookReply}
 use Rattle.serial_model.specs.declared.history.BookReply.TheVariants.{Admitted, Ran, Ticked, Quiet}
 use Rattle.serial_model.specs.declared.history.BookReply.TheVariants.{Bytes, Closed, Refused}
-use Rattle.serial_model.specs.declared.history.BookRefusal.TheVariants.{Gone, NoMemory}
-use Rattle.serial_model.specs.History.{admitted, runs_on, reads_on, gives_on, latest, unsent}
-use Rattle.serial_model.specs.History.{expired}
+use Rattle.serial_model.specs.declared.history.BookRefusal.TheVariants.{Gone, NoMemory, Stopped}
+use Rattle.serial_model.specs.History.{admitted, runs_on, reads_on, gives_on, is_stopped, latest}
+use Rattle.serial_model.specs.History.{expired, unsent}
 
 -- each limit is at least 1
 pub record AreValid (l : Limits) : Type 0 where
@@ -26,6 +26,10 @@ pub record Turn : Type 0 where
 
 abbrev pub gone : List Entry → ℕ → Turn
 gone past id = record { reply = Refused (Gone id); past = past }
+
+-- a SHUTDOWN ran
+abbrev pub stopped : List Entry → Turn
+stopped past = record { reply = Refused Stopped; past = past }
 
 abbrev pub admitting : List Entry → Turn
 admitting past =
@@ -59,12 +63,13 @@ taking past id most (b ∷ bytes) =
 abbrev pub closing : List Entry → ℕ → Turn
 closing past id = record { reply = Closed (length past + 1); past = entry.Close id ∷ past }
 
--- the refusals come in the order Gone, Quiet
+-- the refusals come in the order Stopped, Gone, Quiet
 unfoldable pub book_step : Limits → List Entry → BookCall → Turn
-book_step l past Admit = admitting past
+book_step l past Admit = if is_stopped l past then stopped past else admitting past
 book_step l past (Run id words now) =
     if runs_on l past id then running past id words now else gone past id
-book_step l past (Tick now) = tick_at l past (max now (latest past))
+book_step l past (Tick now) =
+    if is_stopped l past then stopped past else tick_at l past (max now (latest past))
 book_step l past (Take id most) =
     if gives_on l past id then taking past id most (take most (unsent l id past))
     else gone past id
@@ -91,7 +96,7 @@ TakesMemory (Close id) = ⊥
 -- memory, or the entries' numbers, run out only where the step would have added an entry; at a Tick
 -- also before it is known whether a key is due
 abbrev pub MayRunOut : BookCall → BookReply → Type 0
-MayRunOut (Tick now) reply = Unit {0}
+MayRunOut (Tick now) Quiet = Unit {0}
 MayRunOut call reply = AddsEntry reply
 
 -- the turn is the step; or memory ran out, and nothing changed

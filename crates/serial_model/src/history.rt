@@ -6,7 +6,7 @@ use resp_value::{Octets, Words};
 pub struct Limits {
     /// How many keys the tracking table remembers.
     pub table_max: u64,
-    /// How many bytes a connection may leave untaken.
+    /// How many bytes a connection may leave untaken; one that leaves more is dropped.
     pub out_max: u64,
     /// At how many entries since the last fold the book folds: it then lets all of them go.
     pub history_max: u64,
@@ -47,6 +47,8 @@ pub enum BookRefusal {
     /// No connection of this id was admitted, or it has ended.
     Gone { id: u64 },
     NoMemory,
+    /// A SHUTDOWN ran: connections are admitted no more, and keys leave no more.
+    Stopped,
 }
 
 /// The answer to a turn. `entry` is the number of the entry that the turn added.

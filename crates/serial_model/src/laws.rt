@@ -1,13 +1,15 @@
 //! What follows for any list of turns. Each function's contract is the law; none has work to do.
 ghost use Rattle.serial_model.specs.Laws.{BeforeTheReply, BrokenIsLost, BrokenIsTold};
 ghost use Rattle.serial_model.specs.Laws.{ChangeIsSignalled, CloseGivesUp};
-ghost use Rattle.serial_model.specs.Laws.{DueIsPushed, DueIsSent};
-ghost use Rattle.serial_model.specs.Laws.{EachRunOnce, EndIsAtItsEntry, EndIsLast, EndIsSent};
+ghost use Rattle.serial_model.specs.Laws.{DropIsCaused, DropIsOnce, DueIsPushed, DueIsSent};
+ghost use Rattle.serial_model.specs.Laws.{EachRunOnce, EndIsAtItsEntry, EndIsCaused};
+ghost use Rattle.serial_model.specs.Laws.{EndIsLast, EndIsSent};
 ghost use Rattle.serial_model.specs.Laws.{FreshIsFirst, FreshIsSentNothing, GivenIsStream};
 ghost use Rattle.serial_model.specs.Laws.{LegalIsAdded, LimitIsKept, MessagesAreLive};
 ghost use Rattle.serial_model.specs.Laws.{ModeByOwnRuns, NextAfterMark, OthersExtend, PostedIsSent};
 ghost use Rattle.serial_model.specs.Laws.{PostsAreNumbered, ReadIsOwedOrTold, ReadReplies};
-ghost use Rattle.serial_model.specs.Laws.{RegisteredIsMode, ReplyBehindExpiry, ResetRenews};
+ghost use Rattle.serial_model.specs.Laws.{RedirectedIsSent, RegisteredIsMode, ReplyBehindExpiry};
+ghost use Rattle.serial_model.specs.Laws.{ResetRenews, StoppedHasEnded, StoppedIsShutdown};
 ghost use Rattle.serial_model.specs.Laws.{RunsLive, SentGrows};
 ghost use Rattle.serial_model.specs.Laws.{ToldEndsForCause, ToldIsDue, ToldIsSent};
 ghost use Rattle.serial_model.specs.Laws.{WaitingIsUnsent};
@@ -91,10 +93,35 @@ pub fn law_close_gives_up()
     ensures { CloseGivesUp }
 {}
 
-/// Where connections for which more bytes wait than the limit end, no more wait for one that has
-/// not ended.
+/// No more bytes wait for a connection that has not ended than the limit.
 pub fn law_limit_is_kept()
     ensures { LimitIsKept }
+{}
+
+/// The server is stopped exactly where a SHUTDOWN ran.
+pub fn law_stopped_is_shutdown()
+    ensures { StoppedIsShutdown }
+{}
+
+/// Where a SHUTDOWN ran every connection has ended.
+pub fn law_stopped_has_ended()
+    ensures { StoppedHasEnded }
+{}
+
+/// A connection is dropped exactly by a SHUTDOWN, or where more bytes wait for it than the limit;
+/// but not by the entry by which it quits.
+pub fn law_drop_is_caused()
+    ensures { DropIsCaused }
+{}
+
+/// A connection that has ended is not dropped.
+pub fn law_drop_is_once()
+    ensures { DropIsOnce }
+{}
+
+/// A connection ends exactly where it is dropped, quits or is closed.
+pub fn law_end_is_caused()
+    ensures { EndIsCaused }
 {}
 
 /// A connection that was not admitted has what it is admitted with.
@@ -159,6 +186,13 @@ pub fn law_due_is_sent()
 /// key that an entry tells it of.
 pub fn law_due_is_pushed()
     ensures { DueIsPushed }
+{}
+
+/// Where a connection redirects its messages to one that has not ended, this one is sent a message
+/// of each key that an entry tells the connection of: a push on the third protocol, on the second
+/// the message of the channel, if it is subscribed.
+pub fn law_redirected_is_sent()
+    ensures { RedirectedIsSent }
 {}
 
 /// On the third protocol a connection that redirects its messages to one that has ended is sent the

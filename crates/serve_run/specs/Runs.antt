@@ -5,6 +5,7 @@ use Rattle.resp_value.specs.Lists.{IsPrefix}
 use Rattle.edge_links.specs.declared.counts.Counts.{Counts}
 use Rattle.edge_links.specs.Counts.{Counted, FaultCounted, nought}
 use Rattle.serial_model.specs.declared.history.Limits.{Limits}
+use Rattle.serial_model.specs.History.{is_stopped}
 use Rattle.conn_worker.specs.declared.report.Report.{Report}
 use Rattle.conn_pool.specs.declared.serve.Served.{Served}
 use Rattle.conn_pool.specs.Dispatcher.{after_giving, still}
@@ -13,8 +14,8 @@ use Rattle.serve_run.specs.Reports.{report_text}
 use Rattle.serve_run.specs.declared.run.ServeEnd.{ServeEnd}
 use Rattle.serve_run.specs.declared.run.ServeEnd.TheVariants.{Done, NetFault, NoMemory}
 
--- An acceptor that had counted nothing was served to its close or fault, or up to the limit. Each
--- link that it gave has its report, and the reports tell of one legal history.
+-- An acceptor that had counted nothing was served to its close or fault, up to the limit, or until
+-- a SHUTDOWN ran. Each link that it gave has its report, and the reports tell of one legal history.
 pub record ServesAll {A L : Type 0} (limits : Limits) (connections : ℕ) (counts : A → Counts)
     (left : A → Option (List L)) (s : Served A) : Type 0 where
   pub acceptor : A
@@ -28,6 +29,7 @@ pub record ServesAll {A L : Type 0} (limits : Limits) (connections : ℕ) (count
   pub over : Counted (counts acceptor).faults (counts s.acceptor).faults
       ⊎ Counted (counts acceptor).ends (counts s.acceptor).ends
       ⊎ (0 < connections) × (length s.reports.items ≡ connections)
+      ⊎ (is_stopped limits s.book.state.past ≡ true)
   pub within : 0 < connections → length s.reports.items ≤ connections
   pub history : Stands limits s.reports.items s.book
 

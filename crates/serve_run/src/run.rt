@@ -31,9 +31,9 @@ pub struct ServeRun<A> {
     pub end: ServeEnd,
 }
 
-/// Listens at the port, and serves what connects there by so many workers, until no more connects
-/// or so many connections came; 0 is no limit. What a person at it should know meanwhile goes to
-/// standard error.
+/// Listens at the port, and serves what connects there by so many workers, until no more connects,
+/// so many connections came, or a SHUTDOWN ran; 0 is no limit. What a person at it should know
+/// meanwhile goes to standard error.
 pub fn serve<N: Net, C: Clock + Sync, R: Threads + Wait + Eprint + Sync>(
     rt: &R,
     alloc: Global,

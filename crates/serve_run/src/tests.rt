@@ -1,12 +1,13 @@
 //! Servers at the ports of a net in memory, and workers side by side.
 ghost use Rattle.std.specs.Prelude.{◌≤◌};
+ghost use Rattle.std.specs.declared.option.Option.TheVariants.{None};
 
 use crate::{ServeEnd, serve};
 use conn_pool::{Served, serve_all};
-use conn_worker::{Ended, Gate};
+use conn_worker::{Ended, Gate, OpenGate, Report};
 use edge_links::{
-    AcceptStep, FixedClock, LinkStep, ListedNet, Listening, MemoryAcceptor, MemoryLink, MemoryNet,
-    Net,
+    AcceptStep, Accepted, Acceptor, Counts, FixedClock, LinkStep, ListedNet, Listening,
+    MemoryAcceptor, MemoryLink, MemoryNet, Net,
 };
 use resp_value::{NoMemory, Words};
 use serial_model::Limits;
@@ -95,6 +96,8 @@ connection 1 ended 1 requests 1;connection 2 ended 1 requests 1;
 GET a;,fail,GET a; = 1 = 0 = NetFault = connection 1 ended 1 requests 1;
 PING;QUIT;PING;,GET a; = 1 = 0 = Done = \
 connection 1 ended 2 requests 2;connection 2 ended 1 requests 1;
+GET a;,PING;SHUTDOWN;PING;,GET a; = 1 = 0 = Done = \
+connection 1 ended 1 requests 1;connection 2 ended 3 requests 2;
 GET a;,GET a;,idle,GET a;,GET a; = 16 = 0 = Done = \
 connection 1 ended 1 requests 1;connection 2 ended 1 requests 1;\
 connection 3 ended 1 requests 1;connection 4 ended 1 requests 1;";
@@ -208,5 +211,134 @@ fn a_request_waits_for_one_that_another_worker_answers(rt: HostRuntime) -> Resul
     let counts = served_by_two(&rt, rt.alloc(), acceptor, &gate)?;
     assert_eq!(rt; gate.gave_up.load(Ordering::SeqCst), 0);
     assert_eq!(rt; counts, Some((2, 3)));
+    Ok(())
+}
+
+/// Gives the links of its acceptor, and then nobody comes.
+#[derive(Drop)]
+struct OpenAcceptor {
+    acceptor: MemoryAcceptor,
+    counts: Counts,
+}
+
+impl Acceptor for OpenAcceptor {
+    type Link = MemoryLink;
+
+    ghost left = { λ _. None };
+
+    ghost counts = { λ a. a.counts };
+
+    fn accept(&mut self) -> Accepted<MemoryLink> {
+        match self.acceptor.accept() {
+            Accepted::Came(link) => Accepted::Came(link),
+            _ => {
+                self.counts.idle();
+                Accepted::Idle
+            }
+        }
+    }
+}
+
+/// Holds SHUTDOWN until another connection was answered, and this one until a connection was
+/// dropped; it gives up at last.
+#[derive(Drop)]
+struct LastCall {
+    answered: AtomicU64,
+    dropped: AtomicU64,
+    gave_up: AtomicU64,
+}
+
+impl LastCall {
+    fn wait_for(&self, what: &AtomicU64) {
+        for _ in 0..100_000_000u32 {
+            if what.load(Ordering::SeqCst) == 1 {
+                return;
+            }
+            spin_loop();
+        }
+        self.gave_up.store(1, Ordering::SeqCst);
+    }
+}
+
+impl Gate for LastCall {
+    fn before(&self, _id: u64, words: &Words) {
+        if is_word(words, 0, "SHUTDOWN") {
+            self.wait_for(&self.answered);
+        }
+    }
+
+    fn after(&self, _id: u64, _requests: u64) {
+        self.answered.store(1, Ordering::SeqCst);
+        self.wait_for(&self.dropped);
+    }
+
+    fn ended(&self, _id: u64, ended: Ended) {
+        if ended == Ended::Dropped {
+            self.dropped.store(1, Ordering::SeqCst);
+        }
+    }
+}
+
+/// A link that gives these bytes, and then nothing.
+fn silent_link(alloc: Global, text: &str) -> Result<AcceptStep, AllocError> {
+    let mut steps = Vec::new(alloc);
+    steps.push(LinkStep::Bytes(bytes_of(alloc, text, b"\r\n")?))?;
+    steps.push(LinkStep::Wait(u64::MAX))?;
+    match MemoryLink::new(alloc, 100, steps) {
+        Ok(link) => Ok(AcceptStep::Came(link)),
+        Err(_) => Err(AllocError),
+    }
+}
+
+/// One link that is silent behind a request, one that shuts the server down, and a third.
+fn acceptor_of_three(alloc: Global) -> Result<OpenAcceptor, AllocError> {
+    let mut steps = Vec::new(alloc);
+    steps.push(silent_link(alloc, "PING;")?)?;
+    steps.push(link_of(alloc, "SHUTDOWN;")?)?;
+    steps.push(link_of(alloc, "PING;")?)?;
+    Ok(OpenAcceptor {
+        acceptor: MemoryAcceptor::new(steps),
+        counts: Counts::new(),
+    })
+}
+
+/// How many connections ended so, each having run one request.
+fn ended_so<A>(served: &Served<A>, ended: Ended) -> usize {
+    let is_so = |report: &&Report| report.ended == ended && report.requests == 1;
+    served.reports.iter().filter(is_so).count()
+}
+
+#[test]
+fn a_shutdown_ends_the_workers_and_their_connections(rt: HostRuntime) -> Result<(), Fail> {
+    let acceptor = acceptor_of_three(rt.alloc())?;
+    let clock = FixedClock { ms: 0 };
+    let gate = LastCall {
+        answered: AtomicU64::new(0),
+        dropped: AtomicU64::new(0),
+        gave_up: AtomicU64::new(0),
+    };
+    let served = serve_all(&rt, rt.alloc(), LIMITS, acceptor, &clock, &gate, 2, 0)?;
+    assert_eq!(rt; gate.gave_up.load(Ordering::SeqCst), 0);
+    assert_eq!(rt; (served.reports.len(), served.accept_failed), (2, false));
+    assert_eq!(rt; ended_so(&served, Ended::Stopped), 1);
+    assert_eq!(rt; ended_so(&served, Ended::Dropped), 1);
+    let mut acceptor = served.acceptor;
+    assert!(rt; matches!(acceptor.accept(), Accepted::Came(_)));
+    Ok(())
+}
+
+/// A worker that waits for a connection comes home, too.
+#[test]
+fn a_shutdown_ends_the_workers_that_wait(rt: HostRuntime) -> Result<(), Fail> {
+    let mut steps = Vec::new(rt.alloc());
+    steps.push(link_of(rt.alloc(), "SHUTDOWN;")?)?;
+    let acceptor = OpenAcceptor {
+        acceptor: MemoryAcceptor::new(steps),
+        counts: Counts::new(),
+    };
+    let clock = FixedClock { ms: 0 };
+    let served = serve_all(&rt, rt.alloc(), LIMITS, acceptor, &clock, &OpenGate, 3, 0)?;
+    assert_eq!(rt; served.reports.len(), 1);
+    assert_eq!(rt; ended_so(&served, Ended::Dropped), 1);
     Ok(())
 }

@@ -30,24 +30,24 @@ use Rattle.serial_model.specs.declared.history.Post.{Post}
 use Rattle.serial_model.specs.declared.effect.Effect.{Effect}
 use Rattle.serial_model.specs.declared.effect.EntryKind.TheVariants as kind
 use Rattle.serial_model.specs.declared.standing.Standing.{Standing}
-use Rattle.serial_model.specs.EntryEffects.{bare_effect, command_of, last_effect}
+use Rattle.serial_model.specs.EntryEffects.{bare_effect, command_of, dropped_by, last_effect}
 use Rattle.serial_model.specs.Actions.{Action}
 use Rattle.serial_model.specs.History.{is_admitted}
 use Rattle.serial_model.specs.History.{admitted, runs_on, gives_on, reads_on, unsent, state}
-use Rattle.serial_model.specs.History.{IsLegal}
+use Rattle.serial_model.specs.History.{IsLegal, is_stopped}
 use Rattle.serial_model.specs.History.{posted, table, latest, run_action, served_reading}
 use Rattle.server_book.specs.declared.book.RunDone.{RunDone}
 use Rattle.serial_model.specs.State.{keeps_bytes, closed as closed_of}
 use Rattle.serial_model.specs.Steps.{book_step, AddsEntry, BookStep}
 use Rattle.serial_model.proofs.Fresh.{fresh_is_first}
 use Rattle.serial_model.proofs.KeptTables.{is_table}
-use Rattle.serial_model.proofs.ActionSends.{none_dropped}
 use Rattle.serial_model.proofs.Turning.{admit_step, run_step, take_step, close_step}
 use Rattle.serial_model.proofs.Streams.{admitted_id, runs_read, unsent_admit, unsent_fresh}
 use Rattle.serial_model.proofs.Streams.{unsent_close_own, unsent_close_other}
 use Rattle.serial_model.proofs.Streams.{unsent_taken, unsent_take_other}
 use Rattle.server_book.specs.Places.{Connection, fresh, gone, kept_broken, kept_mode}
-use Rattle.server_book.specs.Connections.{IsId, IsOpen, connection_at, with_connection, is_open}
+use Rattle.server_book.specs.Connections.{ConnectionsState, IsId, IsOpen, connection_at, is_open}
+use Rattle.server_book.specs.Connections.{with_connection}
 use Rattle.server_book.specs.Sendings.{end_posts}
 use Rattle.server_book.specs.Stores.{IsHeld}
 use Rattle.server_book.proofs.Sendings.{at_same, at_other}
@@ -146,7 +146,7 @@ one_within : (c d : Connection) → (is_open d ≡ true → is_open c ≡ true) 
 one_within c d h = grind arith
 
 -- where those that are open were open, they are no more than before
-open_within : (old new : List Connection) → length new ≡ length old
+pub open_within : (old new : List Connection) → length new ≡ length old
     → ((i : ℕ) → i < length old → is_open (slice_index_or new i fresh) ≡ true
     → is_open (slice_index_or old i fresh) ≡ true)
     → count_by is_open new ≤ count_by is_open old
@@ -222,11 +222,11 @@ module _ (l : Limits) (past : List Entry) (space : Space) (keys : TableState)
             ∙ kept_fresh l past i k.legal (omega (arith, ge, pos, count)))
       ]
 
-  pub agrees_admit : (id : ℕ) → id ≡ length cs + 1
+  pub agrees_admit : (id : ℕ) → is_stopped l past ≡ false → id ≡ length cs + 1
       → Agrees l (entry.Admit id ∷ past) space keys rs (cs ++ fresh ∷ [])
   unfolding state
-  agrees_admit id e = record {
-    legal = (e ∙ ap (λ n. n + 1) k.count, k.legal);
+  agrees_admit id goes e = record {
+    legal = (goes, e ∙ ap (λ n. n + 1) k.count, k.legal);
     space_is = k.space_is;
     table_is = k.table_is;
     prefixes_are = k.prefixes_are;
@@ -303,6 +303,14 @@ module _ (l : Limits) (past : List Entry) (space : Space) (keys : TableState)
         (λ other ne. kept_close_other l past other id ne);
   }
 
+-- the connections as a turn begins
+pub is_fresh : (s : ConnectionsState) → s.posts ≡ [] → s.lost ≡ [] → s.drops ≡ []
+    → s ≡ record { items = s.items; posts = []; lost = []; drops = [] }
+is_fresh s none unlost undropped =
+    ap (λ x. record { items = s.items; posts = x; lost = s.lost; drops = s.drops }) none
+    ∙ ap (λ x. record { items = s.items; posts = []; lost = x; drops = s.drops }) unlost
+    ∙ ap (λ x. record { items = s.items; posts = []; lost = []; drops = x }) undropped
+
 -- equal parts agree with the same past
 pub agrees_as : (l : Limits) (past : List Entry) (space : Space) (t u : TableState)
     (rs qs : List Registration) (cs ds : List Connection) → u ≡ t → qs ≡ rs → ds ≡ cs
@@ -325,11 +333,15 @@ fresh_agrees l = record {
   each = λ id on. absurd (omega (arith, on.0, on.1));
 }
 
+goes_at_first : (l : Limits) → is_stopped l [] ≡ false
+unfolding state
+goes_at_first l = refl
+
 pub begins : (l : Limits) (log : LogState) (stores : Stores) → log.past ≡ []
     → log.most ≡ l.history_max → stores.space ≡ empty
     → stores.table ≡ record { limit = l.table_max; rows = [] } → stores.prefixes ≡ []
     → stores.connections.items ≡ [] → stores.connections.lost ≡ []
-    → IsBook l log stores
+    → IsBook l false log stores
 begins l log stores none most space rows unregistered nobody none_lost = record {
   agrees = subst (λ p. Agrees l p stores.space stores.table stores.prefixes
       stores.connections.items) (sym none)
@@ -342,6 +354,7 @@ begins l log stores none most space rows unregistered nobody none_lost = record 
   most_is = most;
   room = subst (HasRoom log.closable) (sym nobody) (omega arith);
   none_lost = none_lost;
+  stopped_is = sym (ap (is_stopped l) none ∙ goes_at_first l);
 }
 
 pub table_close : (l : Limits) (past : List Entry) (id : ℕ)
@@ -381,27 +394,35 @@ take_stands l past id m i = refl
 
 -- a turn is the step, where it added the step's entry, sent its posts and says what its effect is
 pub is_turn : (old : BookState) (l : Limits) (past new : List Entry) (posts sent : List Post)
-    (was effect : Option Effect) (e : Entry) (call : BookCall) (reply : BookReply)
+    (drops dropped : List ℕ) (was effect : Option Effect) (e : Entry) (call : BookCall)
+    (reply : BookReply)
     → (let b : BookState = record {
       limits = l;
       past = past;
       posts = posts;
-      drops = [];
+      drops = drops;
       effect = was;
     } in b ≡ old)
     → AddsEntry reply → new ≡ e ∷ past
     → book_step l past call ≡ record { reply = reply; past = e ∷ past } → sent ≡ posted l (e ∷ past)
-    → effect ≡ last_effect l (e ∷ past)
+    → dropped ≡ dropped_by l (e ∷ past) → effect ≡ last_effect l (e ∷ past)
     → IsTurn old call reply
-    (record { limits = l; past = new; posts = sent; drops = []; effect = effect })
-is_turn old l past new posts sent was effect e call reply view adds grown step posted_is told =
-    grind (arith, none_dropped)
+    (record { limits = l; past = new; posts = sent; drops = dropped; effect = effect })
+is_turn old l past new posts sent drops dropped was effect e call reply view adds grown step
+    posted_is left told =
+    grind arith
 
 -- the newest entry is that of the step
-pub admit_turned : (l : Limits) (past : List Entry) (n id : ℕ)
+pub admit_turned : (l : Limits) (past : List Entry) (n id : ℕ) → is_stopped l past ≡ false
     → n ≡ length past + 1 → id ≡ admitted past + 1
     → book_step l past Admit ≡ record { reply = Admitted n id; past = entry.Admit id ∷ past }
-admit_turned l past n id h i = grind (arith, admit_step)
+admit_turned l past n id goes h i =
+    admit_step l past goes
+    ∙ ap (λ x. record {
+      reply = Admitted x (admitted past + 1);
+      past = entry.Admit (admitted past + 1) ∷ past;
+    }) (sym h)
+    ∙ ap (λ x. record { reply = Admitted n x; past = entry.Admit x ∷ past }) (sym i)
 
 pub take_turned : (l : Limits) (past : List Entry) (id most n : ℕ) (bytes : List ℕ)
     → gives_on l past id ≡ true
@@ -429,6 +450,38 @@ pub posted_take : (l : Limits) (past : List Entry) (id m : ℕ)
     → [] ≡ posted l (entry.Take id m ∷ past)
 unfolding posted
 posted_take l past id m = refl
+
+-- whom it drops
+pub dropped_admit : (l : Limits) (past : List Entry) (id : ℕ)
+    → [] ≡ dropped_by l (entry.Admit id ∷ past)
+unfolding dropped_by
+dropped_admit l past id = refl
+
+pub dropped_take : (l : Limits) (past : List Entry) (id m : ℕ)
+    → [] ≡ dropped_by l (entry.Take id m ∷ past)
+unfolding dropped_by
+dropped_take l past id m = refl
+
+pub dropped_close : (l : Limits) (past : List Entry) (id : ℕ)
+    → [] ≡ dropped_by l (entry.Close id ∷ past)
+unfolding dropped_by
+dropped_close l past id = refl
+
+-- whether a SHUTDOWN ran then
+pub stopped_admit : (l : Limits) (past : List Entry) (id : ℕ)
+    → is_stopped l (entry.Admit id ∷ past) ≡ is_stopped l past
+unfolding state
+stopped_admit l past id = refl
+
+pub stopped_take : (l : Limits) (past : List Entry) (id m : ℕ)
+    → is_stopped l (entry.Take id m ∷ past) ≡ is_stopped l past
+unfolding state
+stopped_take l past id m = refl
+
+pub stopped_close : (l : Limits) (past : List Entry) (id : ℕ)
+    → is_stopped l (entry.Close id ∷ past) ≡ is_stopped l past
+unfolding state
+stopped_close l past id = refl
 
 -- and what its effect is
 pub effect_admit : (l : Limits) (past : List Entry) (id n : ℕ) → n ≡ length past + 1
@@ -459,13 +512,13 @@ module _ (l : Limits) (past : List Entry) (id now : ℕ) (words : List (List ℕ
   pub effect_run : (n : ℕ) (command : Option Command) (done : RunDone) → n ≡ length past + 1
       → command ≡ command_of ((state l past).modes id) (served_reading words)
       → done.expired ≡ t.expired
-      → Some done.reply ≡ t.effect.reply → done.signalled ≡ t.effect.signalled
+      → done.reply ≡ t.effect.reply → done.signalled ≡ t.effect.signalled
       → (let e : Effect = record {
         entry = n;
         id = id;
         command = command;
         expired = done.expired;
-        reply = Some done.reply;
+        reply = done.reply;
         signalled = done.signalled;
         kind = kind.Run;
       } in Some e ≡ last_effect l (entry.Run id words moment ∷ past))
@@ -473,29 +526,31 @@ module _ (l : Limits) (past : List Entry) (id now : ℕ) (words : List (List ℕ
   effect_run n command done number ran expired reply signalled = grind arith
 
 -- what a Run has done, and that its turn is the step
-module _ (l : Limits) (past new : List Entry) (posts sent : List Post) (was : Option Effect)
-    (id now : ℕ) (words : List (List ℕ)) (done : RunDone) where
+module _ (l : Limits) (past new : List Entry) (posts sent : List Post) (drops dropped : List ℕ)
+    (was : Option Effect) (id now : ℕ) (words : List (List ℕ)) (done : RunDone) where
   abbrev before : BookState
-  before = record { limits = l; past = past; posts = posts; drops = []; effect = was }
+  before = record { limits = l; past = past; posts = posts; drops = drops; effect = was }
 
   abbrev behind : BookState
-  behind = record { limits = l; past = new; posts = sent; drops = []; effect = was }
+  behind = record { limits = l; past = new; posts = sent; drops = dropped; effect = was }
 
   has_run_at : (m : ℕ) → m ≡ max now (latest past) → new ≡ entry.Run id words m ∷ past
       → runs_on l past id ≡ true
       → sent ≡ posted l (entry.Run id words m ∷ past)
+      → dropped ≡ dropped_by l (entry.Run id words m ∷ past)
       → done.entry ≡ length past + 1
       → done.expired ≡ (run_action id words m (state l past)).expired
-      → Some done.reply ≡ (run_action id words m (state l past)).effect.reply
+      → done.reply ≡ (run_action id words m (state l past)).effect.reply
       → done.signalled ≡ (run_action id words m (state l past)).effect.signalled
       → HasRun before id words now done behind
-  has_run_at m mo grown on posted_is number expired reply signalled =
+  has_run_at m mo grown on posted_is dropped_is number expired reply signalled =
       let s = state l past in
       let e = entry.Run id words (max now (latest past)) in
       let is : new ≡ e ∷ past = grown ∙ ap (λ x. entry.Run id words x ∷ past) mo in record {
-        turn = is_turn before l past new posts sent was (last_effect l new) e (Run id words now)
-            (Ran (length past + 1)) refl tt is (run_step l past id now words on)
+        turn = is_turn before l past new posts sent drops dropped was (last_effect l new) e
+            (Run id words now) (Ran (length past + 1)) refl tt is (run_step l past id now words on)
             (posted_is ∙ ap (λ x. posted l (entry.Run id words x ∷ past)) mo)
+            (dropped_is ∙ ap (λ x. dropped_by l (entry.Run id words x ∷ past)) mo)
             (ap (last_effect l) is);
         entry = number;
         past = is;
@@ -507,14 +562,15 @@ module _ (l : Limits) (past new : List Entry) (posts sent : List Post) (was : Op
   pub has_run : (old : BookState) → before ≡ old → (m : ℕ) → m ≡ max now (latest past)
       → new ≡ entry.Run id words m ∷ past → runs_on l past id ≡ true
       → sent ≡ posted l (entry.Run id words m ∷ past)
+      → dropped ≡ dropped_by l (entry.Run id words m ∷ past)
       → done.entry ≡ length past + 1
       → done.expired ≡ (run_action id words m (state l past)).expired
-      → Some done.reply ≡ (run_action id words m (state l past)).effect.reply
+      → done.reply ≡ (run_action id words m (state l past)).effect.reply
       → done.signalled ≡ (run_action id words m (state l past)).effect.signalled
       → HasRun old id words now done behind
-  has_run old view m mo grown on posted_is number expired reply signalled =
+  has_run old view m mo grown on posted_is dropped_is number expired reply signalled =
       subst (λ o. HasRun o id words now done behind) view
-      (has_run_at m mo grown on posted_is number expired reply signalled)
+      (has_run_at m mo grown on posted_is dropped_is number expired reply signalled)
 
 -- and once its effect is told
 pub run_told : (old mid : BookState) (id now : ℕ) (words : List (List ℕ)) (done : RunDone)
@@ -525,7 +581,7 @@ pub run_told : (old mid : BookState) (id now : ℕ) (words : List (List ℕ)) (d
       id = id;
       command = command;
       expired = done.expired;
-      reply = Some done.reply;
+      reply = done.reply;
       signalled = done.signalled;
       kind = kind.Run;
     } in IsTurn old (Run id words now) (Ran done.entry) (record mid { effect = Some e }))

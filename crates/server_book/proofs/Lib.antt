@@ -1,6 +1,9 @@
 pub mod Keeping
 pub mod Refusals
 pub mod Sendings
+pub mod Lives
+pub mod Endings
+pub mod Ended
 pub mod Routing
 pub mod Remembered
 pub mod Groups
@@ -8,6 +11,7 @@ pub mod PrefixGroups
 pub mod Undoing
 pub mod QuietDeeds
 pub mod BookTurns
+pub mod EntryEnds
 pub mod Runs
 pub mod Ticks
 pub mod Plans

@@ -29,18 +29,18 @@ use Rattle.track_modes.specs.Commands.{after_refusal, allows, changed, ended, fa
 use Rattle.track_modes.specs.ModeState.{ModeState, redirect_of, remembers_read}
 use Rattle.track_modes.specs.Tracked.{tracked, tracking_fault}
 use Rattle.serial_model.specs.Deadlines.{due_keys}
-use Rattle.serial_model.specs.Modes.{Ending, Memory, Remembers, Runner, OwnEffect, ending_of}
-use Rattle.serial_model.specs.Modes.{is_barred, is_quitting, own_effect, refused_effect, target_in}
-use Rattle.serial_model.specs.Modes.{target_of, unless_refused}
+use Rattle.serial_model.specs.Modes.{Ending, Memory, Remembers, Runner, OwnEffect, Stays}
+use Rattle.serial_model.specs.Modes.{ending_of, is_barred, is_stopping, own_effect, refused_effect}
+use Rattle.serial_model.specs.Modes.{target_in, target_of, unless_refused}
 use Rattle.serial_model.specs.Actions.{Action}
 use Rattle.serial_model.specs.State.{State}
 use Rattle.serial_model.specs.Tracking.{AreApart}
 use Rattle.serial_model.specs.History.{is_served, served, served_reading, ran_over, made_of}
 use Rattle.serial_model.specs.History.{run_action, state, effect_of, keyspace, runner_in, is_target}
-use Rattle.serial_model.specs.History.{is_broken_then}
+use Rattle.serial_model.specs.History.{ending_in, is_broken_then}
 use Rattle.serial_model.proofs.DueKeys.{due_by_index}
 use Rattle.serial_model.proofs.ServedRows.{data_effect, data_own, row_of, signalled_keys}
-use Rattle.serial_model.proofs.ServedRows.{none_stops, reads_or_writes}
+use Rattle.serial_model.proofs.ServedRows.{reads_or_writes}
 use Rattle.server_book.specs.declared.deed.Deed.TheVariants.{Nothing, Remember}
 use Rattle.server_book.specs.declared.plan.Caller.{Caller}
 use Rattle.server_book.specs.declared.plan.Plan.{Plan}
@@ -48,7 +48,7 @@ use Rattle.server_book.specs.declared.plan.Played.{Played}
 use Rattle.server_book.specs.Places.{HasNumber}
 use Rattle.server_book.specs.Plans.{IsPlan, IsPlanOf, IsQuiet, IsSound, LeavesKeys, PlansRead}
 use Rattle.server_book.specs.Plans.{PlansWords, answered, asks_broken, signals_of, memory_of}
-use Rattle.server_book.specs.Plans.{deed_for, mode_by, quits, runner}
+use Rattle.server_book.specs.Plans.{deed_for, ending_by, mode_by, runner}
 use Rattle.server_book.specs.Played.{HasPlayed, HasRow, IsPlayed}
 
 -- what follows for a plan follows where there is one
@@ -115,23 +115,28 @@ module _ (remembers : Bool) (c : Command) (space : Space) (moment : ℕ)
       subst (λ sig. AreApart (signalled_keys sig)) is (row_of c space moment data_is).apart
   deed_sound All is = tt
 
--- a data command spends its connection's mark, and ends no connection
+-- a data command spends its connection's mark, and ends nobody
 deed_spends : (remembers : Bool) (reads : List (List ℕ)) (sig : Signalled) (mode : ModeState)
     → mode_by (deed_for remembers reads sig) mode ≡ spent_mode mode
 deed_spends remembers reads sig mode = grind arith
 
-deed_goes_on : (remembers : Bool) (reads : List (List ℕ)) (sig : Signalled)
-    → quits (deed_for remembers reads sig) ≡ false
-deed_goes_on remembers reads sig = grind arith
+deed_stays : (remembers : Bool) (reads : List (List ℕ)) (sig : Signalled)
+    → ending_by (deed_for remembers reads sig) ≡ Stays
+deed_stays remembers reads sig = grind arith
 
-data_goes_on : (c : Command) → has_row c ≡ true → is_quitting (ending_of (Ok c)) ≡ false
-data_goes_on c h = grind arith
+data_ends_none : (c : Command) → has_row c ≡ true → ending_of (Ok c) ≡ Stays
+data_ends_none c h = grind arith
+
+-- what is answered where these end
+abbrev replied_if : Ending → Value → Option Value
+replied_if ends reply = cond (is_stopping ends) None (Some reply)
 
 -- what the command replies and signals is its plan
 data_planned : (p : Plan) (by : Runner) (words : List (List ℕ)) (c : Command) (space : Space)
     (moment : ℕ) (signalled : Signalled) (reads : List (List ℕ)) → has_row c ≡ true
     → reads ≡ cond (remembers_read by.mode) (read c) []
-    → p.reply ≡ (effect c space moment).reply → signalled ≡ (effect c space moment).signalled
+    → p.reply ≡ Some (effect c space moment).reply
+    → signalled ≡ (effect c space moment).signalled
     → p.deed ≡ deed_for (remembers_read by.mode) reads signalled → p.proto ≡ by.mode.proto
     → PlansRead p by words (Ok c) space moment
 unfolding does
@@ -141,7 +146,10 @@ data_planned p by words c space moment signalled reads data_is reads_is reply si
     let is = deed ∙ ap (deed_for t reads) signals in
     let same = data_effect by words c space moment data_is in
     let own = data_own c by data_is in record {
-      reply = reply ∙ sym (ap (λ (e : effects.Effect). e.reply) same);
+      reply =
+          reply ∙ sym (ap (λ (e : effects.Effect). Some e.reply) same)
+          ∙ sym (ap (λ x. replied_if x (effect_of by words (Ok c) space moment).reply)
+          (data_ends_none c data_is));
       signals =
           ap signals_of is ∙ deed_signals t c space moment data_is reads reads_is sig
           ∙ sym (ap (λ (e : effects.Effect). e.signalled) same);
@@ -151,7 +159,7 @@ data_planned p by words c space moment signalled reads data_is reads_is reply si
       mode =
           ap (λ d. mode_by d by.mode) is ∙ deed_spends t reads sig by.mode
           ∙ sym (ap (λ (o : OwnEffect). o.mode) own);
-      ending = ap quits is ∙ deed_goes_on t reads sig ∙ sym (data_goes_on c data_is);
+      ending = ap ending_by is ∙ deed_stays t reads sig ∙ sym (data_ends_none c data_is);
       proto = proto ∙ sym (ap (λ (o : OwnEffect). o.mode.proto) own);
       sound =
           subst IsSound (sym is)
@@ -162,7 +170,7 @@ pub data_played : (p : Played) (by : Runner) (c : Command)
     (old new : Space) (moment : ℕ) (signalled : Signalled) (reads : List (List ℕ))
     → has_row c ≡ true → reads ≡ cond (remembers_read by.mode) (read c) []
     → AreDue moment old p.expired
-    → p.plan.reply ≡ (effect c (without_due moment old) moment).reply
+    → p.plan.reply ≡ Some (effect c (without_due moment old) moment).reply
     → signalled ≡ (effect c (without_due moment old) moment).signalled
     → new ≡ (effect c (without_due moment old) moment).space
     → p.plan.deed ≡ deed_for (remembers_read by.mode) reads signalled
@@ -185,11 +193,13 @@ data_played p by c old new moment signalled reads data_is reads_is due reply sig
 plan_as : (p : Plan) (m : ModeState) (d e : effects.Effect) (o q : OwnEffect) (a b : Ending)
     → e ≡ d → q ≡ o → b ≡ a → IsPlan p m d o a → IsPlan p m e q b
 plan_as p m d e o q a b does makes ending h = record {
-  reply = h.reply ∙ sym (ap (λ (x : effects.Effect). x.reply) does);
+  reply =
+      h.reply ∙ sym (ap (λ (x : effects.Effect). replied_if a x.reply) does)
+      ∙ sym (ap (λ x. replied_if x e.reply) ending);
   signals = h.signals ∙ sym (ap (λ (x : effects.Effect). x.signalled) does);
   memory = h.memory ∙ sym (ap (λ (x : OwnEffect). x.memory) makes);
   mode = h.mode ∙ sym (ap (λ (x : OwnEffect). x.mode) makes);
-  ending = h.ending ∙ sym (ap is_quitting ending);
+  ending = h.ending ∙ sym ending;
   proto = h.proto ∙ sym (ap (λ (x : OwnEffect). x.mode.proto) makes);
   sound = h.sound;
 }
@@ -214,12 +224,17 @@ module _ (by : Runner) (words : List (List ℕ)) (r : Result Command WordFault)
       ap (λ x. cond (is_barred by.mode x) (refused_effect by.mode) (own_effect x by)) is
       ∙ ap (λ x. cond x (refused_effect by.mode) (own_effect r by)) e
 
+  ends_by : (b : Bool) → is_barred by.mode r ≡ b
+      → ending_in by.mode (served_reading words) ≡ cond b Stays (ending_of r)
+  ends_by b e = ap (ending_in by.mode) is ∙ ap (λ x. cond x Stays (ending_of r)) e
+
   plans_allowed : (p : Plan) → is_barred by.mode r ≡ false → PlansRead p by words r space moment
       → PlansWords p by words space moment
   plans_allowed p free h =
       plan_as p by.mode (effect_of by words r space moment) (ran_over space by words moment)
-      (own_effect r by) (made_of words by) (ending_of r) (ending_of (served_reading words))
-      (ran_by false free) (made_by false free) (ap ending_of is) h
+      (own_effect r by) (made_of words by) (ending_of r)
+      (ending_in by.mode (served_reading words))
+      (ran_by false free) (made_by false free) (ends_by false free) h
 
   pub words_allowed : (p : Plan) → is_barred by.mode r ≡ false → IsQuiet p by words r space moment
       → LeavesKeys p by words space moment
@@ -227,10 +242,6 @@ module _ (by : Runner) (words : List (List ℕ)) (r : Result Command WordFault)
     planned = plans_allowed p free h.planned;
     stays = ap (λ (e : effects.Effect). e.space) (ran_by false free) ∙ h.stays;
   }
-
-  barred_stays : (m : ModeState) (q : Result Command WordFault) → is_barred m q ≡ true
-      → false ≡ is_quitting (ending_of q)
-  barred_stays m q h = grind arith
 
   pub words_barred : (p : Plan) → is_barred by.mode r ≡ true
       → p ≡ answered by.mode (Error (codes "ERR not allowed while subscribed"))
@@ -240,7 +251,9 @@ module _ (by : Runner) (words : List (List ℕ)) (r : Result Command WordFault)
       let made = made_by true barred in record {
         planned = record {
           reply =
-              ap (λ (x : Plan). x.reply) h ∙ sym (ap (λ (e : effects.Effect). e.reply) ran);
+              ap (λ (x : Plan). x.reply) h ∙ sym (ap (λ (e : effects.Effect). Some e.reply) ran)
+              ∙ sym (ap (λ x. replied_if x (ran_over space by words moment).reply)
+              (ends_by true barred));
           signals =
               ap (λ (x : Plan). signals_of x.deed) h
               ∙ sym (ap (λ (e : effects.Effect). e.signalled) ran);
@@ -249,9 +262,7 @@ module _ (by : Runner) (words : List (List ℕ)) (r : Result Command WordFault)
           mode =
               ap (λ (x : Plan). mode_by x.deed by.mode) h
               ∙ sym (ap (λ (o : OwnEffect). o.mode) made);
-          ending =
-              ap (λ (x : Plan). quits x.deed) h ∙ barred_stays by.mode r barred
-              ∙ sym (ap (λ x. is_quitting (ending_of x)) is);
+          ending = ap (λ (x : Plan). ending_by x.deed) h ∙ sym (ends_by true barred);
           proto =
               ap (λ (x : Plan). x.proto) h ∙ sym (ap (λ (o : OwnEffect). o.mode.proto) made);
           sound = subst (λ (x : Plan). IsSound x.deed) (sym h) tt;
@@ -397,41 +408,39 @@ module _ (l : Limits) (past : List Entry) (words : List (List ℕ)) (m id : ℕ)
         target_exists = x;
       }) h.target
 
-  answers : (reply : Value)
-      → reply ≡ (ran_over (without_due m (keyspace l past)) runs_as words m).reply
-      → Some reply ≡ t.effect.reply
-  answers reply h = grind (arith, none_stops)
-
   pub plan_runs : (p : Played) (old new : Space) (caller : Caller) (mode : ModeState)
       → HasPlayed (runner caller mode) words m p old new → Calls caller mode
       → old ≡ keyspace l past
       → (p.expired ≡ t.expired)
-      × (Some p.plan.reply ≡ t.effect.reply)
+      × (p.plan.reply ≡ t.effect.reply)
       × (new ≡ t.effect.space)
       × (signals_of p.plan.deed ≡ t.effect.signalled)
       × (memory_of p.plan.deed ≡ t.effect.memory)
       × (mode_by p.plan.deed (s.modes id) ≡ t.effect.mode)
       × (p.plan.proto ≡ t.effect.mode.proto)
-      × (quits p.plan.deed ≡ is_quitting t.effect.ending)
+      × (ending_by p.plan.deed ≡ t.effect.ending)
   plan_runs p old new caller mode played who where_is =
       let by = runner caller mode in
       let same = same_runner caller mode who in
       let left = without_due m (keyspace l past) in
+      let served_as = served_reading words in
       let now : ran_over (without_due m old) by words m ≡ ran_over left runs_as words m =
       ap (λ x. ran_over (without_due m x) by words m) where_is
       ∙ ran_same words by runs_as same who.broken left m in
       let made : made_of words by ≡ made_of words runs_as =
       made_same words by runs_as same who.broken in (
         played.expired ∙ ap (due_keys m) where_is,
-        answers p.plan.reply
-            (played.plan.reply ∙ ap (λ (e : effects.Effect). e.reply) now),
+        played.plan.reply
+            ∙ ap (λ (e : effects.Effect). replied_if (ending_in mode served_as) e.reply) now
+            ∙ ap (λ x. replied_if (ending_in x served_as) (ran_over left runs_as words m).reply)
+            who.mode_is,
         played.space ∙ ap (λ (e : effects.Effect). e.space) now,
         played.plan.signals ∙ ap (λ (e : effects.Effect). e.signalled) now,
         played.plan.memory ∙ ap (λ (o : OwnEffect). o.memory) made,
         ap (mode_by p.plan.deed) (sym who.mode_is) ∙ played.plan.mode
             ∙ ap (λ (o : OwnEffect). o.mode) made,
         played.plan.proto ∙ ap (λ (o : OwnEffect). o.mode.proto) made,
-        played.plan.ending,
+        played.plan.ending ∙ ap (λ x. ending_in x served_as) who.mode_is,
       )
 
 -- ---- the number of a target

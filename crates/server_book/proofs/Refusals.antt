@@ -1,12 +1,13 @@
 -- The answers to calls that add no entry, in their order.
 use Rattle.std.proofs.Common.{◌≡◌, ◌<◌, ℕ, List, [], true, false, cond, Some}
-use Rattle.std.proofs.Common.{length, take, ap, refl, arith}
+use Rattle.std.proofs.Common.{length, take, ap, refl, arith, max, ◌⊎◌, inl, inr, subst, sym}
 use Rattle.serial_model.specs.declared.history.BookCall.{BookCall}
-use Rattle.serial_model.specs.declared.history.BookCall.TheVariants.{Run, Take, Close}
+use Rattle.serial_model.specs.declared.history.BookCall.TheVariants.{Admit, Run, Tick, Take}
+use Rattle.serial_model.specs.declared.history.BookCall.TheVariants.{Close}
 use Rattle.serial_model.specs.declared.history.BookReply.TheVariants.{Quiet, Refused}
-use Rattle.serial_model.specs.declared.history.BookRefusal.TheVariants.{Gone}
-use Rattle.serial_model.specs.History.{runs_on, gives_on, reads_on, unsent}
-use Rattle.serial_model.specs.Steps.{taking, closing, gone, book_step}
+use Rattle.serial_model.specs.declared.history.BookRefusal.TheVariants.{Gone, Stopped}
+use Rattle.serial_model.specs.History.{runs_on, gives_on, reads_on, unsent, is_stopped, latest}
+use Rattle.serial_model.specs.Steps.{admitting, taking, closing, gone, book_step, stopped, tick_at}
 use Rattle.serial_model.specs.Steps.{AddsEntry, MayRunOut, IsCallable}
 use Rattle.server_book.specs.BookState.{BookState, IsAccepted, IsRefusal}
 
@@ -47,6 +48,29 @@ module _ (b : BookState) where
       → IsRefusal b (Close id) (Some (Refused (Gone id)))
   unfolding book_step
   close_gone id off = (ap (λ v. cond v (closing b.past id) (gone b.past id)) off, refl, refl, refl)
+
+  admit_stopped : is_stopped b.limits b.past ≡ true
+      → IsRefusal b Admit (Some (Refused Stopped))
+  unfolding book_step
+  admit_stopped on = (ap (λ v. cond v (stopped b.past) (admitting b.past)) on, refl, refl, refl)
+
+  tick_stopped : (now : ℕ) → is_stopped b.limits b.past ≡ true
+      → IsRefusal b (Tick now) (Some (Refused Stopped))
+  unfolding book_step
+  tick_stopped now on = (
+    ap (λ v. cond v (stopped b.past) (tick_at b.limits b.past (max now (latest b.past)))) on,
+    refl,
+    refl,
+    refl,
+  )
+
+  -- once a SHUTDOWN ran
+  pub stopped_refusal : (call : BookCall) → (call ≡ Admit) ⊎ ((now : ℕ) × (call ≡ Tick now))
+      → is_stopped b.limits b.past ≡ true → IsRefusal b call (Some (Refused Stopped))
+  stopped_refusal call (inl is) on =
+      subst (λ x. IsRefusal b x (Some (Refused Stopped))) (sym is) (admit_stopped on)
+  stopped_refusal call (inr is) on =
+      subst (λ x. IsRefusal b x (Some (Refused Stopped))) (sym is.1) (tick_stopped is.0 on)
 
   adds_taken : (id most : ℕ) (bytes : List ℕ) → 0 < length bytes
       → AddsEntry (taking b.past id most bytes).reply

@@ -1,13 +1,12 @@
 -- A Run sends what its entry sends, and leaves what the history says.
 use Rattle.std.proofs.Common.{◌≡◌, ◌+◌, ◌<◌, ◌≤◌, ℕ, List, [], ◌∷◌, ◌++◌, length, sym, ap, subst}
-use Rattle.std.proofs.Common.{Bool, Some, None, ◌∙◌, refl, arith, true, false, cond}
-use Rattle.std.proofs.Common.{append-nil, length-set}
+use Rattle.std.proofs.Common.{Bool, Option, Some, None, ◌∙◌, refl, arith, true, false, cond, map}
 use Rattle.std.proofs.Common.{append_assoc, eq-eqb, ne_eqb, inl, inr}
 use Rattle.std.specs.Prelude.{◌==◌, nat_lt, nat_le, ◌&&◌, ◌||◌, ◌-◌, filter, not}
 use Rattle.std.proofs.lemmas.Bool.{and_parts, cases_eq}
 use Rattle.std.proofs.lemmas.Bool.Decides.{nat_tests}
-use Rattle.std.proofs.lemmas.Grind.{flat_map-append}
 use Rattle.std.proofs.lemmas.List.Folds.{list_any-append}
+use Rattle.resp_value.specs.declared.value.Value.{Value}
 use Rattle.command_words.specs.Space.{Space}
 use Rattle.track_table.specs.declared.table.Held.{Held}
 use Rattle.command_words.specs.declared.command.Signalled.{Signalled}
@@ -20,98 +19,90 @@ use Rattle.serial_model.specs.declared.history.Limits.{Limits}
 use Rattle.serial_model.specs.declared.history.Entry.{Entry}
 use Rattle.serial_model.specs.declared.history.Entry.TheVariants as entry
 use Rattle.serial_model.specs.Each.{AllIn, AllTo}
-use Rattle.serial_model.specs.Modes.{is_quitting, mends}
+use Rattle.serial_model.specs.EntryEffects.{dropped_by}
+use Rattle.serial_model.specs.Modes.{is_quitting, is_stopping, mends}
 use Rattle.serial_model.specs.Tracking.{Invalidation, drop_group, has_id, ids_where, registering}
 use Rattle.serial_model.specs.Tracking.{signal_group, whole_group}
 use Rattle.serial_model.specs.declared.standing.Standing.{Standing}
-use Rattle.serial_model.specs.declared.standing.Standing.TheVariants.{Live, Quit}
+use Rattle.serial_model.specs.declared.standing.Standing.TheVariants.{Live}
 use Rattle.serial_model.specs.State.{State, for_each, is_live, is_on, keeps_bytes}
-use Rattle.serial_model.specs.Actions.{Action, are_lost, broken_after, drops_told, is_passed}
-use Rattle.serial_model.specs.Actions.{modes_then, own_told, replies, routed, rows_grown}
-use Rattle.serial_model.specs.Actions.{rows_then, to_one}
-use Rattle.serial_model.specs.Actions.{tracks as tracks_in, is_overgrown}
+use Rattle.serial_model.specs.Actions.{Action, action_leaves, all_messages, are_lost, broken_after}
+use Rattle.serial_model.specs.Actions.{drops_told, ends, is_passed, modes_then, own_told, replies}
+use Rattle.serial_model.specs.Actions.{routed, rows_grown, rows_then, to_one}
+use Rattle.serial_model.specs.Actions.{tracks as tracks_in}
 use Rattle.serial_model.specs.Actions.{expiry_told as expiry_told_in, later_told}
-use Rattle.serial_model.specs.Actions.{Sending, Message, End, spelled}
-use Rattle.serial_model.specs.History.{runs_on, latest, has_ended, unsent, posted, state}
-use Rattle.serial_model.specs.History.{sends, sent_to, sent_bytes}
-use Rattle.serial_model.specs.History.{posts_of, run_action, table, expired, is_quit}
-use Rattle.serial_model.specs.History.{table_grown}
-use Rattle.serial_model.specs.Served.{quit_end}
+use Rattle.serial_model.specs.Actions.{Sending, End}
+use Rattle.serial_model.specs.History.{runs_on, latest, posted, state, is_stopped, sent_to}
+use Rattle.serial_model.specs.History.{sent_bytes, unsent}
+use Rattle.serial_model.specs.History.{posts_of, run_action, table, expired, table_grown}
 use Rattle.serial_model.proofs.Counts.{admitted_is, on_is}
-use Rattle.serial_model.proofs.Each.{all_in, in_append}
-use Rattle.serial_model.proofs.Fresh.{action_sends_off}
+use Rattle.serial_model.proofs.Each.{all_in}
 use Rattle.serial_model.proofs.ActionSends.{run_sends}
+use Rattle.serial_model.proofs.LiveMessages.{run_live}
 use Rattle.serial_model.proofs.Lives.{AreLive, Is, all_live, grown_live, is_from, is_then_on}
 use Rattle.serial_model.proofs.Lives.{run_adds, then_live}
 use Rattle.serial_model.proofs.Quiet.{later_lost, later_routed}
 use Rattle.serial_model.proofs.ModeSteps.{mode_own, mode_other}
-use Rattle.serial_model.proofs.StateSteps.{run_ends_are, run_space, run_stands_other}
-use Rattle.serial_model.proofs.StateSteps.{run_stands_own, run_table}
-use Rattle.serial_model.proofs.Streams.{keeps_run, not_ended, run_bytes, unsent_run}
-use Rattle.serial_model.proofs.Streams.{unsent_run_ended}
+use Rattle.serial_model.proofs.StateSteps.{run_space, run_table}
+use Rattle.serial_model.proofs.Streams.{not_ended, unsent_run, unsent_run_ended}
 use Rattle.serial_model.proofs.TableSize.{table_within, without_keys_within, without_within}
-use Rattle.serial_model.proofs.Tables.{all_to, drop_group_all, dropped_all, ids_all, sent_to-append}
+use Rattle.serial_model.proofs.Tables.{all_to, drop_group_all, dropped_all, ids_all}
 use Rattle.serial_model.proofs.Tables.{signal_group_all, to_append, whole_group_all}
+use Rattle.server_book.specs.declared.ends.Ends.{Ends}
 use Rattle.server_book.specs.Places.{Connection, kept_broken, kept_mode}
 use Rattle.server_book.specs.declared.deed.Deed.{Deed}
 use Rattle.server_book.specs.declared.plan.Plan.{Plan}
 use Rattle.server_book.specs.Connections.{ConnectionsState, IsId, connection_at}
 use Rattle.server_book.specs.Connections.{is_live as is_live_in, is_there, is_open, IsOpen}
-use Rattle.server_book.specs.Plans.{signals_of, memory_of, told_by, kept_by, mode_by}
-use Rattle.server_book.specs.Plans.{quits, registered_by, remembered_by}
-use Rattle.server_book.specs.RunSendings.{deed_done, end_by, reply_sent}
-use Rattle.server_book.specs.RunSendings.{settled, settled_one, standing_by}
+use Rattle.server_book.specs.Endings.{ArePostedTo, HasEnded, ending_ids, ends_of}
+use Rattle.server_book.specs.Plans.{ending_by, signals_of, memory_of, told_by, kept_by, mode_by}
+use Rattle.server_book.specs.Plans.{registered_by, remembered_by}
+use Rattle.server_book.specs.RunSendings.{deed_done, reply_sent, settled, settled_one}
 use Rattle.server_book.specs.Sendings.{lost_ids, marked, modes_in, passed_over, passes}
-use Rattle.server_book.specs.Sendings.{tracking_ids, ways, with_sendings, with_told}
+use Rattle.server_book.specs.Sendings.{tracking_ids, ways, with_told}
 use Rattle.server_book.specs.Sendings.{tracks as tracks_of}
-use Rattle.server_book.specs.BookState.{Agrees, connection_of}
+use Rattle.server_book.specs.BookState.{Agrees, HasRoom, connection_of}
+use Rattle.server_book.proofs.EntryEnds.{IsSent, bytes_append, dropped_ended, each_ended, ends_same}
+use Rattle.server_book.proofs.EntryEnds.{posted_ended, posted_past, posts_append, room_ended}
+use Rattle.server_book.proofs.EntryEnds.{sent_one}
 use Rattle.server_book.proofs.PrefixGroups.{nothing_told}
 use Rattle.server_book.proofs.Routing.{AreSame, ids_lost, live_open, lost_among, lost_append}
-use Rattle.server_book.proofs.Routing.{lost_same, lost_there, routed_same, sendings_lost}
-use Rattle.server_book.proofs.Routing.{sendings_same, ways_same, ways_there}
+use Rattle.server_book.proofs.Routing.{lost_same, lost_there, routed_same, sendings_same}
+use Rattle.server_book.proofs.Routing.{ways_same, ways_there}
 use Rattle.server_book.proofs.Remembered.{short_dropped}
 use Rattle.server_book.proofs.Sendings.{at_same, at_other, AreTo, sent_at, more, broken_if}
-use Rattle.server_book.proofs.Sendings.{length_queued, length_sendings, posts_sendings}
+use Rattle.server_book.proofs.Sendings.{drops_kept, length_sendings, length_settled, lost_kept}
+use Rattle.server_book.proofs.Sendings.{posts_sendings}
 use Rattle.server_book.proofs.Sendings.{id_longer, ids_same, is_there_id, marked_at, marked_length}
-use Rattle.server_book.proofs.Sendings.{sendings_append}
 use Rattle.server_book.proofs.BookTurns.{is_id, live_mode, mode_of, opened, runs_there, same_kept}
-use Rattle.server_book.proofs.BookTurns.{same_broken, same_parts}
+use Rattle.server_book.proofs.BookTurns.{same_parts}
 
 is_live_of : (x : Standing) → not (is_live x) ≡ false → x ≡ Live
 is_live_of x h = grind arith
 
-pub posts_append : (n : ℕ) (xs ys : List (ℕ × Sending))
-    → posts_of n (xs ++ ys) ≡ posts_of n xs ++ posts_of n ys
-posts_append n [] ys = refl
-posts_append n (x ∷ xs) ys = grind (arith, posts_append n xs ys)
-
-pub bytes_append : (n c : ℕ) (xs ys : List (ℕ × Sending))
-    → sent_bytes (sent_to n c (xs ++ ys))
-    ≡ sent_bytes (sent_to n c xs) ++ sent_bytes (sent_to n c ys)
-bytes_append n c xs ys = grind (arith, sent_to-append, flat_map-append)
-
 -- ---- the registered prefixes behind a Run
 
-left_where : (q : Bool) (id : ℕ) (rs : List Registration)
-    → for_each registrations.without_connection (cond q (id ∷ []) []) rs
-    ≡ cond q (registrations.without_connection id rs) rs
-left_where true id rs = refl
-left_where false id rs = refl
-
--- a connection that quits leaves them
+-- those that end leave them
 run_prefixes : (l : Limits) (past : List Entry) (id m : ℕ) (words : List (List ℕ))
-    → runs_on l past id ≡ true
-    → (let t = run_action id words m (state l past) in
-    let after = registering id t.effect.memory (state l past).prefixes in
+    → (let s = state l past in
+    let t = run_action id words m s in
     (state l (entry.Run id words m ∷ past)).prefixes
-    ≡ cond (is_quit words) (registrations.without_connection id after) after)
+    ≡ for_each registrations.without_connection (ends l t s)
+    (registering id t.effect.memory s.prefixes))
 unfolding state
-run_prefixes l past id m words on =
-    let s = state l past in
-    let after = registering id (run_action id words m s).effect.memory s.prefixes in
-    ap (λ ids. for_each registrations.without_connection ids after)
-    (run_ends_are l id words m s (on_is l past id ∙ on))
-    ∙ left_where (is_quit words) id after
+run_prefixes l past id m words = refl
+
+run_leaves : (l : Limits) (past : List Entry) (id m : ℕ) (words : List (List ℕ))
+    → state l (entry.Run id words m ∷ past)
+    ≡ action_leaves l (run_action id words m (state l past)) (state l past)
+unfolding state
+run_leaves l past id m words = refl
+
+pub run_stopped : (l : Limits) (past : List Entry) (id m : ℕ) (words : List (List ℕ))
+    → is_stopped l (entry.Run id words m ∷ past)
+    ≡ (is_stopped l past || is_stopping (run_action id words m (state l past)).effect.ending)
+unfolding state
+run_stopped l past id m words = refl
 
 -- ---- a connection that is settled
 
@@ -122,11 +113,6 @@ module _ (id : ℕ) (deed : Deed) (st : ConnectionsState) (there : AllIn (IsId s
 
     abbrev behind : List Connection
     behind = marked st.lost st.items
-
-    pub length_settled : length then.items ≡ length st.items
-    length_settled =
-        length-set behind (id - 1) (settled_one deed (connection_at behind id))
-        ∙ marked_length st.lost st.items
 
     pub settled_own : IsId st.items id
         → connection_at then.items id
@@ -209,7 +195,7 @@ module _ (l : Limits) (past : List Entry) (space : Space) (keys : TableState)
     (rs : List Registration) (cs : List Connection) (k : Agrees l past space keys rs cs) (m : ℕ)
     (gone : List (List ℕ)) (gone_is : gone ≡ expired l past m) where
   abbrev pub old : ConnectionsState
-  old = record { items = cs; posts = []; lost = [] }
+  old = record { items = cs; posts = []; lost = []; drops = [] }
 
   abbrev now : State
   now = state l past
@@ -312,20 +298,23 @@ module _ (l : Limits) (past : List Entry) (space : Space) (keys : TableState)
 
     module _ (id : ℕ) (words : List (List ℕ)) (on : runs_on l past id ≡ true) (plan : Plan)
         (number : n ≡ length past + 1)
-        (replied : Some plan.reply ≡ (run_action id words m (state l past)).effect.reply)
+        (replied : plan.reply ≡ (run_action id words m (state l past)).effect.reply)
         (signalled : signals_of plan.deed
         ≡ (run_action id words m (state l past)).effect.signalled)
         (remembers : memory_of plan.deed ≡ (run_action id words m (state l past)).effect.memory)
         (becoming : mode_by plan.deed ((state l past).modes id)
         ≡ (run_action id words m (state l past)).effect.mode)
         (speaks : plan.proto ≡ (run_action id words m (state l past)).effect.mode.proto)
-        (ending : quits plan.deed
-        ≡ is_quitting (run_action id words m (state l past)).effect.ending) where
+        (ending : ending_by plan.deed
+        ≡ (run_action id words m (state l past)).effect.ending) where
       abbrev t : Action
       t = run_action id words m now
 
       abbrev pub run : Entry
       run = entry.Run id words m
+
+      abbrev next : State
+      next = state l (run ∷ past)
 
       own_there : IsId cs id
       own_there = is_id l past space keys rs cs k id (runs_there l past space keys rs cs k id on)
@@ -333,36 +322,42 @@ module _ (l : Limits) (past : List Entry) (space : Space) (keys : TableState)
       on_first : IsId first.items id
       on_first = (own_there.0, let le = own_there.1 in omega (arith, le, length_first))
 
-      abbrev pub message : List ℕ
-      message = spelled plan.proto plan.reply
+      -- the reply, if there is one
+      abbrev answer : List (ℕ × Sending)
+      answer = to_one id plan.proto plan.reply
 
-      -- once the reply is sent
+      one_there : (x : Option Value) → AreTo first.items (to_one id plan.proto x)
+      one_there None = tt
+      one_there (Some value) = (on_first, tt)
+
+      answer_there : AreTo first.items answer
+      answer_there = one_there plan.reply
+
+      -- once it is sent
       abbrev pub second : ConnectionsState
       second = reply_sent n id plan first
 
       pub length_second : length second.items ≡ length cs
-      length_second = length_queued first.items id message ∙ length_first
+      length_second = length_sendings n answer first ∙ length_first
 
-      second_own : connection_at second.items id ≡ more (connection_at first.items id) message
-      second_own = at_same first.items id (more (connection_at first.items id) message) on_first
-
-      second_other : (i : ℕ) → 0 < i → (id ≡ i → ⊥)
-          → connection_at second.items i ≡ connection_at first.items i
-      second_other i some ne =
-          at_other first.items id i (more (connection_at first.items id) message) own_there.0 some
-          ne
+      second_at : (i : ℕ) → IsId cs i → connection_at second.items i
+          ≡ more (more (connection_of l past i) (sent_bytes (sent_to n i early)))
+          (sent_bytes (sent_to n i answer))
+      second_at i there =
+          sent_at n i answer first (there.0, let le = there.1 in omega (arith, le, length_first))
+          answer_there
+          ∙ ap (λ c. more c (sent_bytes (sent_to n i answer))) (first_at i there)
 
       second_parts : (i : ℕ) → IsId cs i
           → ((connection_at second.items i).mode ≡ kept_mode (now.standing i) (now.modes i))
           × ((connection_at second.items i).standing ≡ now.standing i)
-      second_parts i there = elim (cases_eq id i) [
-        | inl e ↦ grind (arith, second_own, first_at)
-        | inr ne ↦ grind (arith, second_other, first_at)
-      ]
+      second_parts i there = (
+        ap (λ (c : Connection). c.mode) (second_at i there),
+        ap (λ (c : Connection). c.standing) (second_at i there),
+      )
 
       second_same : AreSame first.items second.items
-      second_same =
-          sendings_same n ((id, Message plan.proto plan.reply) ∷ []) first (on_first, tt)
+      second_same = sendings_same n answer first answer_there
 
       -- whom the deed tells goes by the connections as they were
       second_ways : (told : List Invalidation) → ways second.items told ≡ ways cs told
@@ -426,31 +421,14 @@ module _ (l : Limits) (past : List Entry) (space : Space) (keys : TableState)
           left.rows) k.prefixes_are)
           ∙ grind (arith, left_is, tracking_is)
 
-      kept_is : kept_by left.limit id plan.deed left.rows ≡ table l (run ∷ past)
-      kept_is =
-          ap (λ b. cond b
-          (without_connection id (kept left.limit (remembered_by id plan.deed left.rows)))
-          (kept left.limit (remembered_by id plan.deed left.rows))) ending
-          ∙ ap (λ rows. cond (is_quit words) (without_connection id rows) rows) grown_is
-          ∙ sym (run_table l past id m words on)
-        where
-          grown_is : kept left.limit (remembered_by id plan.deed left.rows)
-              ≡ kept l.table_max (table_grown l past id words m)
-          grown_is = grind (arith, left_is)
+      kept_is : kept_by left.limit id plan.deed left.rows
+          ≡ kept l.table_max (table_grown l past id words m)
+      kept_is = grind (arith, left_is)
 
-      registered_is : registered_by id plan.deed rs ≡ (state l (run ∷ past)).prefixes
+      registered_is : registered_by id plan.deed rs ≡ registering id t.effect.memory now.prefixes
       registered_is =
-          ap (λ b. cond b
-          (registrations.without_connection id (registering id (memory_of plan.deed) rs))
-          (registering id (memory_of plan.deed) rs)) ending
-          ∙ ap (λ x. cond (is_quit words) (registrations.without_connection id x) x) grown_is
-          ∙ sym (run_prefixes l past id m words on)
-        where
-          grown_is : registering id (memory_of plan.deed) rs
-              ≡ registering id t.effect.memory now.prefixes
-          grown_is =
-              ap (λ x. registering id x rs) remembers
-              ∙ ap (registering id t.effect.memory) k.prefixes_are
+          ap (λ x. registering id x rs) remembers
+          ∙ ap (registering id t.effect.memory) k.prefixes_are
 
       later_live : AllTo IsNow (later_told l t now)
       later_live =
@@ -461,57 +439,33 @@ module _ (l : Limits) (past : List Entry) (space : Space) (keys : TableState)
           (ids_where (tracks_in now) now.admitted) (rows_then t now) now.prefixes
           (ids_all Has (tracks_in now) now.admitted
           (λ h some le e. is_from now h (and_parts _ (is_on now h) e).1))
-          (then_live (λ c. false) l t now lives own) lives.of_prefixes)
+          (then_live l t now lives own) lives.of_prefixes)
           (drop_group_all Has (dropped l.table_max (rows_grown t now))
           (dropped_all Has l.table_max (rows_grown t now)
-          (grown_live (λ c. false) l t now lives own))))
+          (grown_live l t now lives own))))
 
+      -- what the deed sends to those whom it tells
       abbrev pub pushed : List (ℕ × Sending)
       pushed = ways second.items told
 
-      -- what the deed sends: to those whom it tells, and the end of its connection
-      abbrev pub sent : List (ℕ × Sending)
-      sent = pushed ++ end_by id plan.deed
-
-      end_there : (b : Bool) → AreTo second.items (cond b ((id, End) ∷ []) [])
-      end_there true =
-          ((own_there.0, let le = own_there.1 in omega (arith, le, length_second)), tt)
-      end_there false = tt
-
-      sent_there : AreTo second.items sent
-      sent_there =
-          in_append (λ (s : ℕ × Sending). IsId second.items s.0) pushed (end_by id plan.deed)
-          (ways_there second.items told) (end_there (quits plan.deed))
+      pushed_there : AreTo second.items pushed
+      pushed_there = ways_there second.items told
 
       pushed_is : pushed ≡ routed (modes_then t now) (is_on now) (later_told l t now)
       pushed_is =
           ap (ways second.items) told_is ∙ second_ways (later_told l t now)
           ∙ ways_are (later_told l t now) later_live ∙ sym (later_routed l past id words m)
 
-      end_is : end_by id plan.deed ≡ quit_end t
-      end_is = ap (λ b. cond b ((id, End) ∷ []) []) ending
-
       abbrev pub after : ConnectionsState
       after = deed_done n id plan.deed left rs second
 
-      -- those who were lost by what left and by the deed
-      abbrev lost : List ℕ
-      lost = lost_ids cs first_told ++ lost_ids second.items told
-
-      after_is : after ≡ record (with_sendings n sent second) { lost = lost }
-      after_is =
-          sendings_lost n (end_by id plan.deed) (with_sendings n pushed second) lost
-          ∙ ap (λ (s : ConnectionsState). record s { lost = lost })
-          (sym (sendings_append n pushed (end_by id plan.deed) second))
-
       length_after : length after.items ≡ length cs
-      length_after =
-          ap (λ (s : ConnectionsState). length s.items) after_is ∙ length_sendings n sent second
-          ∙ length_second
+      length_after = length_sendings n pushed second ∙ length_second
 
       lost_is : after.lost ≡ lost_ids cs (first_told ++ later_told l t now)
       lost_is =
-          ap (λ (s : ConnectionsState). s.lost) after_is
+          ap (λ x. x ++ lost_ids second.items told)
+          (lost_kept n answer first)
           ∙ ap (λ x. lost_ids cs first_told ++ x)
           (ap (lost_ids second.items) told_is ∙ second_lost (later_told l t now))
           ∙ sym (lost_append cs first_told (later_told l t now))
@@ -541,134 +495,67 @@ module _ (l : Limits) (past : List Entry) (space : Space) (keys : TableState)
       there_after : IsId after.items id
       there_after = (own_there.0, let le = own_there.1 in omega (arith, le, length_after))
 
-      -- and once the connection has its new mode, or has ended
+      -- and once the connection has its new mode
       abbrev pub final : ConnectionsState
       final = settled id plan.deed after
 
       pub length_final : length final.items ≡ length cs
-      length_final = length_settled id plan.deed after lost_after ∙ length_after
+      length_final = length_settled id plan.deed after ∙ length_after
 
       -- ---- what the Run sends, from the same parts
 
-      abbrev reply : ℕ × Sending
-      reply = (id, Message plan.proto plan.reply)
+      abbrev sent : List (ℕ × Sending)
+      sent = (early ++ answer) ++ pushed
 
-      reply_is : replies t ≡ reply ∷ []
-      reply_is = sym (ap (to_one id t.effect.mode.proto) replied)
-          ∙ ap (λ p. (id, Message p plan.reply) ∷ []) (sym speaks)
+      answer_is : replies t ≡ answer
+      answer_is =
+          ap (λ p. to_one id p t.effect.reply) (sym speaks)
+          ∙ ap (to_one id plan.proto) (sym replied)
 
-      sends_are : sends l run now ≡ (early ++ reply ∷ []) ++ sent
-      sends_are =
+      sent_is : all_messages l t now ≡ sent
+      sent_is =
           let early_routed = routed now.modes (is_on now) (expiry_told_in t now) in
           let later = routed (modes_then t now) (is_on now) (later_told l t now) in
-          run_sends l past id words m k.legal on
-          ∙ ap (λ x. ((early_routed ++ x) ++ later) ++ quit_end t) reply_is
-          ∙ ap (λ x. ((x ++ reply ∷ []) ++ later) ++ quit_end t) (sym early_is)
-          ∙ ap (λ x. ((early ++ reply ∷ []) ++ x) ++ quit_end t) (sym pushed_is)
-          ∙ ap (λ x. ((early ++ reply ∷ []) ++ pushed) ++ x) (sym end_is)
-          ∙ append_assoc (early ++ reply ∷ []) pushed (end_by id plan.deed)
-
-      bytes_are : (c : ℕ) → run_bytes l past id words m c
-          ≡ (sent_bytes (sent_to n c early) ++ sent_bytes (sent_to n c (reply ∷ [])))
-          ++ sent_bytes (sent_to n c sent)
-      bytes_are c = grind (arith, sends_are, bytes_append)
-
-      off : (c : ℕ) → has_ended l c past ≡ true → is_on now c ≡ false
-      off c h = grind (arith, on_is)
-
-      -- what a Run sends a connection comes behind what is unsent, whether it has ended or not
-      unsent_after : (c : ℕ) → unsent l c (run ∷ past)
-          ≡ unsent l c past ++ run_bytes l past id words m c
-      unsent_after c = elim (has_ended l c past) as (λ b. has_ended l c past ≡ b
-          → unsent l c (run ∷ past) ≡ unsent l c past ++ run_bytes l past id words m c) [
-            | false ↦ λ h. unsent_run l past c id m words h
-            | true ↦ λ h. unsent_run_ended l past c id m words h
-                ∙ sym (ap (λ x. unsent l c past ++ sent_bytes x)
-                (action_sends_off (is_overgrown l t now) l t now (length past + 1) c (off c h))
-                ∙ append-nil (unsent l c past))
-          ] refl
-
-      own_bytes : sent_bytes (sent_to n id (reply ∷ [])) ≡ message
-      own_bytes = grind (arith, eq-eqb, append-nil)
-
-      other_bytes : (i : ℕ) → (id == i) ≡ false → sent_bytes (sent_to n i (reply ∷ [])) ≡ []
-      other_bytes i ne = grind arith
+          ap (λ x. (early_routed ++ x) ++ later) answer_is
+          ∙ ap (λ x. (x ++ answer) ++ later) (sym early_is)
+          ∙ ap (λ x. (early ++ answer) ++ x) (sym pushed_is)
 
       -- ---- each connection
 
-      after_at : (i : ℕ) → IsId cs i → connection_at after.items i
-          ≡ more (connection_at second.items i) (sent_bytes (sent_to n i sent))
-      after_at i there =
-          ap (λ (s : ConnectionsState). connection_at s.items i) after_is
-          ∙ sent_at n i sent second (there.0, let le = there.1 in omega (arith, le, length_second))
-          sent_there
+      bytes_of : (i : ℕ) → sent_bytes (sent_to n i sent)
+          ≡ (sent_bytes (sent_to n i early) ++ sent_bytes (sent_to n i answer))
+          ++ sent_bytes (sent_to n i pushed)
+      bytes_of i =
+          bytes_append n i (early ++ answer) pushed
+          ∙ ap (λ x. x ++ sent_bytes (sent_to n i pushed)) (bytes_append n i early answer)
 
-      after_own : connection_at after.items id
-          ≡ more (more (more (connection_of l past id) (sent_bytes (sent_to n id early))) message)
-          (sent_bytes (sent_to n id sent))
-      after_own =
-          after_at id own_there
-          ∙ ap (λ c. more c (sent_bytes (sent_to n id sent)))
-          (second_own ∙ ap (λ c. more c message) (first_at id own_there))
+      after_at : (i : ℕ) → IsId cs i → connection_at after.items i
+          ≡ more (connection_of l past i) (sent_bytes (sent_to n i sent))
+      after_at i there =
+          sent_at n i pushed second (there.0, let le = there.1 in omega (arith, le, length_second))
+          pushed_there
+          ∙ ap (λ c. more c (sent_bytes (sent_to n i pushed))) (second_at i there)
+          ∙ ap (λ q. record (connection_of l past i) { queue = q })
+          (three (unsent l i past) (sent_bytes (sent_to n i early))
+          (sent_bytes (sent_to n i answer)) (sent_bytes (sent_to n i pushed))
+          ∙ ap (λ x. unsent l i past ++ x) (sym (bytes_of i)))
+        where
+          three : (a b c d : List ℕ) → ((a ++ b) ++ c) ++ d ≡ a ++ ((b ++ c) ++ d)
+          three a b c d = simp append_assoc
 
       pub mode_after : (connection_at after.items id).mode ≡ now.modes id
-      mode_after = ap (λ (c : Connection). c.mode) after_own ∙ own_mode
+      mode_after = ap (λ (c : Connection). c.mode) (after_at id own_there) ∙ own_mode
 
       -- it has not ended
       pub on_after : IsOpen after.items id
       on_after = (
         there_after,
-        ap is_open after_own ∙ ap is_open (sym (k.each id own_there))
+        ap is_open (after_at id own_there) ∙ ap is_open (sym (k.each id own_there))
             ∙ (opened l past space keys rs cs k id on).1,
       )
 
-      own_is : connection_at final.items id
-          ≡ (let c = connection_of l past id in
-          record {
-            queue = ((c.queue ++ sent_bytes (sent_to n id early)) ++ message)
-                ++ sent_bytes (sent_to n id sent);
-            standing = standing_by plan.deed c.standing;
-            mode = mode_by plan.deed c.mode;
-            is_broken = not (mends (memory_of plan.deed))
-                && ((has_id id after.lost && keeps_bytes c.standing) || c.is_broken);
-          })
-      own_is =
-          settled_own id plan.deed after lost_after there_after
-          ∙ ap (λ c. settled_one plan.deed (broken_if (has_id id after.lost) c)) after_own
-
-      own_queue : ((unsent l id past ++ sent_bytes (sent_to n id early)) ++ message)
-          ++ sent_bytes (sent_to n id sent) ≡ unsent l id (run ∷ past)
-      own_queue = grind (arith, append_assoc, unsent_after, bytes_are, own_bytes)
-
-      other_is : (i : ℕ) → IsId cs i → (id ≡ i → ⊥) → connection_at final.items i
-          ≡ (let c = connection_of l past i in
-          record c {
-            queue = (c.queue ++ sent_bytes (sent_to n i early)) ++ sent_bytes (sent_to n i sent);
-            is_broken = (has_id i after.lost && keeps_bytes c.standing) || c.is_broken;
-          })
-      other_is i there ne =
-          settled_other id plan.deed after lost_after i own_there.0 there.0 ne
-          ∙ ap (broken_if (has_id i after.lost))
-          (after_at i there
-          ∙ ap (λ c. more c (sent_bytes (sent_to n i sent)))
-          (second_other i there.0 ne ∙ first_at i there))
-
-      other_queue : (i : ℕ) → (id == i) ≡ false
-          → (unsent l i past ++ sent_bytes (sent_to n i early)) ++ sent_bytes (sent_to n i sent)
-          ≡ unsent l i (run ∷ past)
-      other_queue i ne =
-          grind (arith, append_assoc, append-nil, unsent_after, bytes_are, other_bytes)
-
       live_is : now.standing id ≡ Live
       live_is = is_live_of (now.standing id) (not_ended l past id on)
-
-      stands_own : standing_by plan.deed (now.standing id) ≡ (state l (run ∷ past)).standing id
-      stands_own =
-          ap (standing_by plan.deed) live_is ∙ ap (λ b. cond b Quit Live) ending
-          ∙ sym (run_stands_own l past id m words on)
-
-      keeps_own : keeps_bytes ((state l (run ∷ past)).standing id) ≡ true
-      keeps_own = keeps_run l past id id m words ∙ ap keeps_bytes live_is
 
       -- a command that mends a redirection tells nobody
       none_later : mends (memory_of plan.deed) ≡ true → later_broken id ≡ false
@@ -677,7 +564,7 @@ module _ (l : Limits) (past : List Entry) (space : Space) (keys : TableState)
           (sym told_is
           ∙ mends_told id plan.deed passed (tracking_ids second.items) left rs short h)
 
-      broken_is : (c : ℕ) → (state l (run ∷ past)).broken c
+      broken_is : (c : ℕ) → next.broken c
           ≡ (cond ((id == c) && mends (memory_of plan.deed)) false
           (now.broken c || early_broken c) || later_broken c)
       broken_is c =
@@ -690,30 +577,34 @@ module _ (l : Limits) (past : List Entry) (space : Space) (keys : TableState)
       broken_own : (not (mends (memory_of plan.deed))
           && ((has_id id after.lost && keeps_bytes (now.standing id))
           || kept_broken (now.standing id) (now.broken id)))
-          ≡ kept_broken ((state l (run ∷ past)).standing id) ((state l (run ∷ past)).broken id)
+          ≡ kept_broken (now.standing id) (next.broken id)
       broken_own =
           let mended = mends (memory_of plan.deed) in
           ap (λ x. not mended && ((has_id id after.lost && keeps_bytes x)
           || kept_broken x (now.broken id))) live_is
           ∙ ap (λ x. not mended && ((x && true) || (true && now.broken id))) (was_lost id)
           ∙ own_broken mended (early_broken id) (later_broken id) (now.broken id) none_later
-          ∙ sym (ap (λ b. b && (state l (run ∷ past)).broken id) keeps_own
+          ∙ sym (ap (λ x. kept_broken x (next.broken id)) live_is
           ∙ broken_is id
           ∙ ap (λ b. cond (b && mended) false (now.broken id || early_broken id)
           || later_broken id) (eq-eqb id id refl))
 
-      each_own : connection_at final.items id ≡ connection_of l (run ∷ past) id
-      each_own =
-          own_is ∙ same_parts own_queue stands_own
+      final_own : connection_at final.items id
+          ≡ sent_one l past run (sent_bytes (sent_to n id sent)) id
+      final_own =
+          settled_own id plan.deed after lost_after there_after
+          ∙ ap (λ c. settled_one plan.deed (broken_if (has_id id after.lost) c))
+          (after_at id own_there)
+          ∙ same_parts refl refl
           (ap (mode_by plan.deed) own_mode ∙ becoming
           ∙ sym (mode_own l id id m words past (eq-eqb id id refl))
-          ∙ sym (live_mode ((state l (run ∷ past)).standing id) ((state l (run ∷ past)).modes id)
-          keeps_own)) broken_own
+          ∙ sym (live_mode (now.standing id) (next.modes id) (ap keeps_bytes live_is)))
+          broken_own
 
       broken_else : (i : ℕ) → (id == i) ≡ false
           → ((has_id i after.lost && keeps_bytes (now.standing i))
           || kept_broken (now.standing i) (now.broken i))
-          ≡ kept_broken (now.standing i) ((state l (run ∷ past)).broken i)
+          ≡ kept_broken (now.standing i) (next.broken i)
       broken_else i ne =
           let kept = keeps_bytes (now.standing i) in
           ap (λ x. (x && kept) || (kept && now.broken i)) (was_lost i)
@@ -722,52 +613,110 @@ module _ (l : Limits) (past : List Entry) (space : Space) (keys : TableState)
           ∙ ap (λ b. cond (b && mends (memory_of plan.deed)) false
           (now.broken i || early_broken i) || later_broken i) ne))
 
-      each_other : (i : ℕ) → IsId cs i → (id ≡ i → ⊥)
-          → connection_at final.items i ≡ connection_of l (run ∷ past) i
-      each_other i there ne =
-          let stays = run_stands_other l past i id m words (ne_eqb id i ne) in
-          other_is i there ne
-          ∙ same_parts (other_queue i (ne_eqb id i ne)) (sym stays)
-          (same_kept (sym stays) (sym (mode_other l i id m words past (ne_eqb id i ne))))
-          (broken_else i (ne_eqb id i ne) ∙ same_broken (sym stays) refl)
+      final_other : (i : ℕ) → IsId cs i → (id ≡ i → ⊥)
+          → connection_at final.items i
+          ≡ sent_one l past run (sent_bytes (sent_to n i sent)) i
+      final_other i there ne =
+          settled_other id plan.deed after lost_after i own_there.0 there.0 ne
+          ∙ ap (broken_if (has_id i after.lost)) (after_at i there)
+          ∙ same_parts refl refl
+          (same_kept refl (sym (mode_other l i id m words past (ne_eqb id i ne))))
+          (broken_else i (ne_eqb id i ne))
 
-      pub agrees_run : (new : Space) → latest past ≤ m
-          → new ≡ t.effect.space
-          → (let rows = kept_by left.limit id plan.deed left.rows in
-          Agrees l (run ∷ past) new (record keys { rows = rows }) (registered_by id plan.deed rs)
-          final.items)
-      agrees_run new later s = record {
-        legal = (on, later, k.legal);
-        space_is = s ∙ sym (run_space l past id m words);
-        table_is =
-            ap (λ rows. record keys { rows = rows }) kept_is
-            ∙ ap (λ limit. record { limit = limit; rows = table l (run ∷ past) })
-            (ap (λ (t : TableState). t.limit) k.table_is);
-        prefixes_are = registered_is;
+      final_is : (i : ℕ) → IsId final.items i
+          → connection_at final.items i
+          ≡ sent_one l past run (sent_bytes (sent_to n i sent)) i
+      final_is i there = elim (cases_eq id i) [
+        | inl e ↦
+            subst (λ j. connection_at final.items j
+            ≡ sent_one l past run (sent_bytes (sent_to n j sent)) j) e final_own
+        | inr ne ↦
+            final_other i (there.0, let le = there.1 in omega (arith, le, length_final)) ne
+      ]
+
+      -- ---- all that the Run sends is sent, and it ends those whom the history ends
+
+      abbrev by : Ends
+      by = ends_of id plan.deed l.out_max
+
+      posts_are : final.posts ≡ posts_of n sent
+      posts_are =
+          posts_sendings n pushed second
+          ∙ ap (λ x. x ++ posts_of n pushed) (posts_sendings n answer first
+          ∙ ap (λ x. x ++ posts_of n answer) first_posts
+          ∙ sym (posts_append n early answer))
+          ∙ sym (posts_append n (early ++ answer) pushed)
+
+      pub sent_run : IsSent l past run t n by sent final
+      sent_run = record {
+        number = number;
+        leaves = run_leaves l past id m words;
+        sends_are =
+            run_sends l past id words m k.legal on
+            ∙ ap (λ x. x ++ map (λ c. (c, End)) (ends l t now)) sent_is;
+        messages_are = run_live l past id words m k.legal on ∙ sent_is;
+        drops_are = refl;
+        quits_are = λ c. ap (λ x. (id == c) && is_quitting x) ending;
+        stops_are = ap is_stopping ending;
+        limit_is = refl;
+        unsent_more = λ c live none. unsent_run l past c id m words live none;
+        unsent_same = λ c over. unsent_run_ended l past c id m words over;
         count = length_final ∙ k.count;
-        each = λ i there. elim (cases_eq id i) [
-          | inl e ↦
-              subst (λ j. connection_at final.items j ≡ connection_of l (run ∷ past) j) e each_own
-          | inr ne ↦
-              each_other i (there.0, let le = there.1 in omega (arith, le, length_final)) ne
-        ];
+        each = final_is;
+        posts_are = posts_are;
+        none_dropped =
+            drops_kept n pushed second ∙ drops_kept n answer first ∙ drops_kept n early old;
       }
 
-      -- nobody is left who was lost
-      pub none_left : final.lost ≡ []
-      none_left = refl
+      pub agrees_run : (new : Space) (done : ConnectionsState) → latest past ≤ m
+          → new ≡ t.effect.space → HasEnded n by final done
+          → (let rows = kept_by left.limit id plan.deed left.rows in
+          let ids = ending_ids by final.items in
+          Agrees l (run ∷ past) new
+          (record keys { rows = for_each without_connection ids rows })
+          (for_each registrations.without_connection ids (registered_by id plan.deed rs))
+          done.items)
+      agrees_run new done later s ended =
+          let same = ends_same l past run t n by sent final sent_run in record {
+            legal = (on, later, k.legal);
+            space_is = s ∙ sym (run_space l past id m words);
+            table_is =
+                ap (λ ids. record keys {
+                  rows = for_each without_connection ids
+                      (kept_by left.limit id plan.deed left.rows);
+                }) same
+                ∙ ap (λ rows. record keys {
+                  rows = for_each without_connection (ends l t now) rows;
+                }) kept_is
+                ∙ ap (λ rows. record keys { rows = rows }) (sym (run_table l past id m words))
+                ∙ ap (λ limit. record { limit = limit; rows = table l (run ∷ past) })
+                (ap (λ (t : TableState). t.limit) k.table_is);
+            prefixes_are =
+                ap (λ ids. for_each registrations.without_connection ids
+                (registered_by id plan.deed rs)) same
+                ∙ ap (for_each registrations.without_connection (ends l t now)) registered_is
+                ∙ sym (run_prefixes l past id m words);
+            count = ended.count ∙ length_final ∙ k.count;
+            each = λ i there.
+                each_ended l past run t n by sent final sent_run done ended i
+                (there.0, let le = there.1 in omega (arith, le, ended.count));
+          }
 
-      -- and its posts are those of its entry
-      pub posted_run : final.posts ≡ posted l (run ∷ past)
-      unfolding posted
-      posted_run =
-          ap (λ (s : ConnectionsState). s.posts) after_is
-          ∙ grind (
-            arith,
-            posts_sendings,
-            first_posts,
-            append_assoc,
-            posts_append,
-            append-nil,
-            sends_are,
-          )
+      -- whom it ends were sent what brought them past the limit
+      pub posted_then : ArePostedTo l.out_max final.items final.posts
+      posted_then = posted_past l past run t n by sent final sent_run
+
+      pub posted_run : (done : ConnectionsState) → HasEnded n by final done
+          → done.posts ≡ posted l (run ∷ past)
+      posted_run done ended = posted_ended l past run t n by sent final sent_run done ended
+
+      pub dropped_run : (done : ConnectionsState) → HasEnded n by final done
+          → done.drops ≡ dropped_by l (run ∷ past)
+      dropped_run done ended = dropped_ended l past run t n by sent final sent_run done ended
+
+      pub room_run : (closable : ℕ) (done : ConnectionsState) → HasEnded n by final done
+          → HasRoom closable cs
+          → (length done.drops ≤ closable) × HasRoom (closable - length done.drops) done.items
+      room_run closable done ended room =
+          room_ended l past run t n by sent final sent_run done ended space keys rs cs k closable
+          room

@@ -11,15 +11,17 @@ use Rattle.std.proofs.lemmas.List.{get_or-set_same, get_or-set_other, set-get_or
 use Rattle.std.proofs.Math.Seq.{take-append_seam}
 use Rattle.serial_model.specs.declared.history.Post.{Post}
 use Rattle.serial_model.specs.Tracking.{has_id, ids_where}
-use Rattle.serial_model.specs.Actions.{Sending, End, sending_bytes}
+use Rattle.serial_model.specs.Actions.{Sending, sending_bytes}
 use Rattle.serial_model.specs.History.{posted_of, sent_bytes, sent_to, posts_of}
 use Rattle.serial_model.specs.Each.{AllIn}
 use Rattle.serial_model.proofs.Each.{all_in, in_append}
 use Rattle.server_book.specs.Places.{Connection, fresh, lost_one}
 use Rattle.server_book.specs.Connections.{ConnectionsState, IsId, connection_at, with_connection}
 use Rattle.server_book.specs.Connections.{is_open, is_there, ArePosted, IsOpen}
+use Rattle.server_book.specs.RunSendings.{settled, settled_one}
+use Rattle.server_book.specs.declared.deed.Deed.{Deed}
 use Rattle.server_book.specs.Sendings.{queued, with_sending, with_sendings, marked, marked_one}
-use Rattle.server_book.specs.Sendings.{unqueued, before_posts, size_of, end_post}
+use Rattle.server_book.specs.Sendings.{unqueued, before_posts, size_of}
 
 -- what holds holds of an error, and of a success
 pub on_err : {A E : Type 0} (r : Result A E) (P : Type 0) → P → OnErr r P
@@ -36,10 +38,6 @@ on_err_then r P Q f h = grind arith
 
 -- ---- a connection by its id
 
--- one that is open is there
-pub open_there : (cs : List Connection) (id : ℕ) → IsOpen cs id → IsId cs id
-open_there cs id on = on.0
-
 pub at_same : (cs : List Connection) (id : ℕ) (c : Connection) → IsId cs id
     → connection_at (with_connection cs id c) id ≡ c
 at_same cs id c h = get_or-set_same cs (id - 1) c fresh (omega arith)
@@ -54,6 +52,10 @@ pub put_twice : (cs : List Connection) (at : ℕ) (a b : Connection)
 put_twice [] at a b = refl
 put_twice (c ∷ cs) zero a b = refl
 put_twice (c ∷ cs) (suc at) a b = ap (λ l. c ∷ l) (put_twice cs at a b)
+
+-- its place, where the same connections are given in two ways
+pub place_there : (cs ds : List Connection) (id : ℕ) → cs ≡ ds → IsId ds id → id - 1 < length cs
+place_there cs ds id same on = omega (arith, ap length same)
 
 -- ---- posts are of connections that are there
 
@@ -168,6 +170,17 @@ posts_sendings n [] state = sym (append-nil state.posts)
 posts_sendings n (s ∷ ss) state =
     grind (arith, append_assoc, posts_sendings n ss (with_sending n s state))
 
+-- and no more than that
+pub lost_kept : (n : ℕ) (ss : List (ℕ × Sending)) (state : ConnectionsState)
+    → (with_sendings n ss state).lost ≡ state.lost
+lost_kept n [] state = refl
+lost_kept n (s ∷ ss) state = lost_kept n ss (with_sending n s state)
+
+pub drops_kept : (n : ℕ) (ss : List (ℕ × Sending)) (state : ConnectionsState)
+    → (with_sendings n ss state).drops ≡ state.drops
+drops_kept n [] state = refl
+drops_kept n (s ∷ ss) state = drops_kept n ss (with_sending n s state)
+
 -- a connection with bytes behind its queue
 abbrev pub more : Connection → List ℕ → Connection
 more c bytes = record c { queue = c.queue ++ bytes }
@@ -198,22 +211,6 @@ sent_at n i (s ∷ ss) state on h =
 
 pub is_there_id : (cs : List Connection) (id : ℕ) → is_there cs id ≡ true → IsId cs id
 is_there_id cs id h = grind (arith, nat_tests)
-
--- ---- the end of a connection that quits
-
-queued_nothing : (cs : List Connection) (id : ℕ) → queued cs id [] ≡ cs
-queued_nothing cs id =
-    let c = connection_at cs id in
-    ap (λ q. with_connection cs id (record c { queue = q })) (append-nil c.queue)
-    ∙ set-get_or cs (id - 1) fresh
-
-pub end_sent : (n id : ℕ) (st : ConnectionsState)
-    → record st { posts = st.posts ++ end_post n id ∷ [] } ≡ with_sendings n ((id, End) ∷ []) st
-end_sent n id st =
-    ap (λ (cs : List Connection). record st {
-      items = cs;
-      posts = st.posts ++ end_post n id ∷ [];
-    }) (sym (queued_nothing st.items id))
 
 -- ---- those that track
 
@@ -257,6 +254,19 @@ one_length id cs = length-set cs (id - 1) (lost_one (connection_at cs id))
 pub marked_length : (ids : List ℕ) (cs : List Connection) → length (marked ids cs) ≡ length cs
 marked_length [] cs = refl
 marked_length (id ∷ ids) cs = one_length id (marked ids cs) ∙ marked_length ids cs
+
+pub length_settled : (id : ℕ) (deed : Deed) (st : ConnectionsState)
+    → length (settled id deed st).items ≡ length st.items
+length_settled id deed st =
+    let behind = marked st.lost st.items in
+    length-set behind (id - 1) (settled_one deed (connection_at behind id))
+    ∙ marked_length st.lost st.items
+
+-- the connection that ran is there once it is settled
+pub settled_there : (id by : ℕ) (deed : Deed) (st : ConnectionsState) → IsId st.items id
+    → by ≡ id → IsId (settled id deed st).items by
+settled_there id by deed st on same =
+    (omega (arith, same, on.0), omega (arith, same, on.1, length_settled id deed st))
 
 -- one whose redirection is broken, if it was lost and is open
 abbrev pub broken_if : Bool → Connection → Connection

@@ -1,18 +1,19 @@
 -- A Run that memory broke off is taken back.
-use Rattle.std.proofs.Common.{◌≡◌, ℕ, List, [], ◌∷◌, ◌++◌, length, ap, sym, ◌∙◌, refl, arith, None}
+use Rattle.std.proofs.Common.{◌≡◌, ℕ, List, [], length, ap, sym, ◌∙◌, arith, Option, None, Some}
+use Rattle.resp_value.specs.declared.value.Value.{Value}
 use Rattle.track_table.specs.declared.table.Held.{Held}
 use Rattle.track_table.specs.Table.{without_keys}
-use Rattle.serial_model.specs.declared.history.Post.{Post}
-use Rattle.serial_model.specs.Actions.{Sending}
+use Rattle.serial_model.specs.Actions.{Sending, to_one}
 use Rattle.serial_model.specs.Tracking.{Invalidation}
 use Rattle.serial_model.proofs.KeptTables.{table_without_keys}
 use Rattle.serial_model.proofs.TableSize.{without_keys_within}
 use Rattle.server_book.specs.Connections.{ConnectionsState, IsId, IsOpen, connection_at, is_open}
-use Rattle.server_book.specs.Sendings.{before_posts, message_post, queued, unpassed, ways}
-use Rattle.server_book.specs.Sendings.{with_told}
+use Rattle.server_book.specs.RunSendings.{reply_sent}
+use Rattle.server_book.specs.Sendings.{before_posts, unpassed, ways, with_told}
+use Rattle.server_book.specs.declared.plan.Plan.{Plan}
 use Rattle.server_book.specs.Stores.{IsHeld}
 use Rattle.server_book.proofs.Routing.{before_told, ways_there}
-use Rattle.server_book.proofs.Sendings.{before_last, length_sendings, sent_at, unqueued_queued}
+use Rattle.server_book.proofs.Sendings.{AreTo, before_sendings, length_sendings, sent_at}
 
 -- the table is one where keys leave it
 pub held_left : (limit : ℕ) (keys : List (List ℕ)) (rows : List Held) → IsHeld limit rows
@@ -20,29 +21,34 @@ pub held_left : (limit : ℕ) (keys : List (List ℕ)) (rows : List Held) → Is
 held_left limit keys rows h = grind (arith, table_without_keys, without_keys_within)
 
 -- a reply that was sent is taken back
-pub reply_back : (n id : ℕ) (st : ConnectionsState) (message : List ℕ) → IsOpen st.items id
-    → (let post = message_post n id (length message) in
-    before_posts (st.posts ++ post ∷ []) (queued st.items id message)
-    ≡ before_posts st.posts st.items)
-reply_back n id st message on =
-    let post : Post = message_post n id (length message) in
-    before_last st.posts post (queued st.items id message)
-    ∙ ap (before_posts st.posts) (unqueued_queued st.items post message on.0 refl)
+pub reply_back : (n id : ℕ) (st next : ConnectionsState) (plan : Plan) → IsOpen st.items id
+    → next ≡ reply_sent n id plan st
+    → before_posts next.posts next.items ≡ before_posts st.posts st.items
+reply_back n id st next plan on sent =
+    ap (λ (s : ConnectionsState). before_posts s.posts s.items) sent
+    ∙ before_sendings n (to_one id plan.proto plan.reply) st (one_there plan.reply)
+  where
+    one_there : (x : Option Value) → AreTo st.items (to_one id plan.proto x)
+    one_there None = tt
+    one_there (Some value) = (on.0, tt)
 
 -- what was sent is taken back, and who was lost is forgotten
 pub back_to : (old now : ConnectionsState)
     → before_posts now.posts now.items ≡ before_posts old.posts old.items → old.posts ≡ []
-    → old.lost ≡ []
+    → old.lost ≡ [] → old.drops ≡ []
     → (let back : ConnectionsState = record {
       items = before_posts now.posts now.items;
       posts = [];
       lost = [];
+      drops = [];
     } in back ≡ old)
-back_to old now back none unlost =
-    ap (λ x. record { items = x; posts = []; lost = [] })
+back_to old now back none unlost undropped =
+    ap (λ x. record { items = x; posts = []; lost = []; drops = [] })
     (back ∙ ap (λ ps. before_posts ps old.items) none)
-    ∙ ap (λ x. record { items = old.items; posts = x; lost = [] }) (sym none)
-    ∙ ap (λ x. record { items = old.items; posts = old.posts; lost = x }) (sym unlost)
+    ∙ ap (λ x. record { items = old.items; posts = x; lost = []; drops = [] }) (sym none)
+    ∙ ap (λ x. record { items = old.items; posts = old.posts; lost = x; drops = [] }) (sym unlost)
+    ∙ ap (λ x. record { items = old.items; posts = old.posts; lost = old.lost; drops = x })
+    (sym undropped)
 
 -- those were told whom the keys that left concern
 module _ (n id : ℕ) (old now : ConnectionsState) (group : List Invalidation)

@@ -1,6 +1,6 @@
 -- What contracts see of a book, and how its parts follow from its history.
-use Rattle.std.specs.Prelude.{◌≡◌, ◌<◌, ◌≤◌, ◌+◌, ℕ, List, [], ◌∷◌, true, length, max}
-use Rattle.std.specs.Prelude.{Option, Some, None}
+use Rattle.std.specs.Prelude.{◌≡◌, ◌<◌, ◌≤◌, ◌+◌, ℕ, List, [], ◌∷◌, true, false, length, max}
+use Rattle.std.specs.Prelude.{Bool, Option, Some, None}
 use Rattle.std.specs.List.{count_by}
 use Rattle.command_words.specs.Space.{Space}
 use Rattle.serial_model.specs.declared.history.Limits.{Limits}
@@ -17,7 +17,7 @@ use Rattle.serial_model.specs.declared.history.Entry.TheVariants as entry
 use Rattle.serial_model.specs.EntryEffects.{last_effect, dropped_by}
 use Rattle.serial_model.specs.Actions.{Action}
 use Rattle.serial_model.specs.History.{admitted, keyspace, unsent, posted, IsLegal, state, latest}
-use Rattle.serial_model.specs.History.{runs_on, gives_on, reads_on, run_action}
+use Rattle.serial_model.specs.History.{runs_on, gives_on, reads_on, is_stopped, run_action}
 use Rattle.server_book.specs.declared.book.RunDone.{RunDone}
 use Rattle.serial_model.specs.History.{table as table_of}
 use Rattle.track_table.specs.Table.{TableState}
@@ -44,6 +44,7 @@ empty_book limits = record { limits = limits; past = []; posts = []; drops = [];
 -- a turn has begun, and added no entry yet
 pub record IsClear (b : BookState) : Type 0 where
   pub posts : b.posts ≡ []
+  pub drops : b.drops ≡ []
   pub effect : b.effect ≡ None
 
 -- what a turn sent: the posts of the entry that it added, none where it added none
@@ -101,18 +102,19 @@ pub record Agrees (l : Limits) (past : List Entry) (space : Space) (table : Tabl
 abbrev pub HasRoom : ℕ → List Connection → Type 0
 HasRoom room connections = count_by is_open connections ≤ room
 
-pub record IsBook (l : Limits) (log : LogState) (stores : Stores) : Type 0 where
+pub record IsBook (l : Limits) (stopped : Bool) (log : LogState) (stores : Stores) : Type 0 where
   pub agrees : Agrees l log.past stores.space stores.table stores.prefixes
       stores.connections.items
   pub most_is : log.most ≡ l.history_max
   pub room : HasRoom log.closable stores.connections.items
   pub none_lost : stores.connections.lost ≡ []
+  pub stopped_is : stopped ≡ is_stopped l log.past
 
 -- the call is one that adds an entry; of a Tick it is not known yet whether a key is due
 abbrev pub IsAccepted : Limits → List Entry → BookCall → Type 0
-IsAccepted l past Admit = Unit {0}
+IsAccepted l past Admit = is_stopped l past ≡ false
 IsAccepted l past (Run id words now) = runs_on l past id ≡ true
-IsAccepted l past (Tick now) = Unit {0}
+IsAccepted l past (Tick now) = is_stopped l past ≡ false
 IsAccepted l past (Take id most) =
     (gives_on l past id ≡ true) × (0 < length (unsent l id past))
 IsAccepted l past (Close id) = reads_on l past id ≡ true
@@ -146,5 +148,5 @@ pub record HasRun (old : BookState) (id : ℕ) (words : List (List ℕ)) (now : 
   pub past : new.past ≡ entry.Run id words (max now (latest old.past)) ∷ old.past
   pub entry : done.entry ≡ length old.past + 1
   pub expired : done.expired ≡ (action_of old id words now).expired
-  pub reply : Some done.reply ≡ (action_of old id words now).effect.reply
+  pub reply : done.reply ≡ (action_of old id words now).effect.reply
   pub signalled : done.signalled ≡ (action_of old id words now).effect.signalled

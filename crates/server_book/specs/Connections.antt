@@ -2,18 +2,20 @@
 use Rattle.std.specs.Prelude.{◌≡◌, ◌-◌, ◌<◌, ◌≤◌, ◌&&◌, ℕ, List, Bool, true, nat_lt}
 use Rattle.std.specs.Prelude.{length, nat_le}
 use Rattle.std.specs.Prelude.{slice_index_or, slice_set}
+use Rattle.std.specs.List.{count_by}
 use Rattle.serial_model.specs.Each.{AllIn}
 use Rattle.serial_model.specs.State as state
 use Rattle.serial_model.specs.State.{keeps_bytes, may_take}
 use Rattle.serial_model.specs.declared.history.Post.{Post}
 use Rattle.server_book.specs.Places.{Connection, fresh}
 
--- the connections, what the last turn sent, and those whose messages were due where the target of
--- their redirection had ended, which is not told of them yet
+-- the connections, what the last turn sent, those whose messages were due where the target of their
+-- redirection had ended, which is not told of them yet, and whom the turn dropped
 pub record ConnectionsState : Type 0 where
   pub items : List Connection
   pub posts : List Post
   pub lost : List ℕ
+  pub drops : List ℕ
 
 abbrev pub IsId : List Connection → ℕ → Type 0
 IsId connections id = (0 < id) × (id ≤ length connections)
@@ -51,9 +53,16 @@ IsOpen connections id =
 abbrev pub ArePosted : List Connection → List Post → Type 0
 ArePosted connections posts = AllIn (λ (post : Post). IsId connections post.id) posts
 
--- and there is room for one; those that were lost are there
+-- a connection that has not ended
+abbrev pub has_life : Connection → Bool
+has_life connection = state.is_live connection.standing
+
+-- and so are those that were lost; there is room for the end of each connection that has not ended,
+-- as a post and as a drop
 pub record HoldsPosts (connections : List Connection) (posts : List Post) (lost : List ℕ)
-    (room : ℕ) : Type 0 where
+    (live room drop_room : ℕ) : Type 0 where
   pub there : ArePosted connections posts
   pub lost_there : AllIn (IsId connections) lost
-  pub for_one : 1 ≤ room
+  pub live_are : live ≡ count_by has_life connections
+  pub for_each : live ≤ room
+  pub for_drops : live ≤ drop_room

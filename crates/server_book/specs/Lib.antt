@@ -5,5 +5,6 @@ pub mod Log
 pub mod Places
 pub mod Connections
 pub mod Sendings
+pub mod Endings
 pub mod Stores
 pub mod BookState

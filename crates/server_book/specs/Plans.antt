@@ -13,19 +13,19 @@ use Rattle.command_words.specs.Effects.{has_row}
 use Rattle.command_words.specs.Space.{Space}
 use Rattle.track_table.specs.declared.table.Held.{Held}
 use Rattle.resp_value.specs.declared.value.Value.{Value}
-use Rattle.track_table.specs.Table.{TableState, dropped, kept, without_connection}
+use Rattle.track_table.specs.Table.{TableState, dropped, kept}
 use Rattle.prefix_table.specs.declared.table.Registration.{Registration}
-use Rattle.prefix_table.specs.Table as registrations
 use Rattle.track_modes.specs.Commands.{allows, spent_mode}
 use Rattle.track_modes.specs.ModeState.{ModeState, prefixes_of}
 use Rattle.serial_model.specs.Modes.{Runner, Memory, Remembers, Registers, Forgets, own_effect}
-use Rattle.serial_model.specs.Modes.{Ending, OwnEffect, ending_of, is_quitting}
+use Rattle.serial_model.specs.Modes.{Ending, OwnEffect, Quits, Stays, Stops, ending_of}
+use Rattle.serial_model.specs.Modes.{is_stopping}
 use Rattle.serial_model.specs.Tracking.{AreApart, Invalidation, drop_group, registering}
 use Rattle.serial_model.specs.Tracking.{remembering, signal_group, without_signalled}
-use Rattle.serial_model.specs.History.{effect_of, made_of, ran_over, served_reading}
+use Rattle.serial_model.specs.History.{effect_of, ending_in, made_of, ran_over, served_reading}
 use Rattle.server_book.specs.declared.deed.Deed.{Deed}
 use Rattle.server_book.specs.declared.deed.Deed.TheVariants.{Nothing, Tell, TellAll, Remember}
-use Rattle.server_book.specs.declared.deed.Deed.TheVariants.{Become, Track, Forget, Quit}
+use Rattle.server_book.specs.declared.deed.Deed.TheVariants.{Become, Track, Forget, Quit, Shutdown}
 use Rattle.server_book.specs.declared.plan.Caller.{Caller}
 use Rattle.server_book.specs.declared.plan.Plan.{Plan}
 
@@ -39,6 +39,7 @@ signals_of (Become mode) = Keys []
 signals_of (Track mode) = Keys []
 signals_of (Forget mode) = Keys []
 signals_of Quit = Keys []
+signals_of Shutdown = Keys []
 
 abbrev pub memory_of : Deed → Memory
 memory_of Nothing = Remembers []
@@ -49,6 +50,7 @@ memory_of (Become mode) = Remembers []
 memory_of (Track mode) = Registers (prefixes_of mode.tracking)
 memory_of (Forget mode) = Forgets
 memory_of Quit = Remembers []
+memory_of Shutdown = Remembers []
 
 -- the mode that it leaves, where it is another
 abbrev pub becomes : Deed → Option ModeState
@@ -61,10 +63,11 @@ becomes deed = None
 abbrev pub mode_by : Deed → ModeState → ModeState
 mode_by deed mode = option_map_or (λ m. m) (becomes deed) (spent_mode mode)
 
--- its connection ends
-abbrev pub quits : Deed → Bool
-quits Quit = true
-quits deed = false
+-- whom it ends
+abbrev pub ending_by : Deed → Ending
+ending_by Quit = Quits
+ending_by Shutdown = Stops
+ending_by deed = Stays
 
 -- each key that is told of is named once
 abbrev pub IsSound : Deed → Type 0
@@ -90,18 +93,12 @@ told_by id deed is_passed tracking table prefixes =
     signal_group (signals_of deed) is_passed tracking table.rows prefixes
     ++ drop_group (dropped table.limit (remembered_by id deed table.rows))
 
--- a connection that ends remembers nothing
-abbrev pub left_by : ℕ → Deed → List Held → List Held
-left_by id deed rows = if quits deed then without_connection id rows else rows
-
 abbrev pub kept_by : ℕ → ℕ → Deed → List Held → List Held
-kept_by limit id deed rows = left_by id deed (kept limit (remembered_by id deed rows))
+kept_by limit id deed rows = kept limit (remembered_by id deed rows)
 
--- the registered prefixes after a deed of a connection; one that ends has none
+-- the registered prefixes after a deed of a connection
 abbrev pub registered_by : ℕ → Deed → List Registration → List Registration
-registered_by id deed prefixes =
-    let after = registering id (memory_of deed) prefixes in
-    if quits deed then registrations.without_connection id after else after
+registered_by id deed prefixes = registering id (memory_of deed) prefixes
 
 -- who runs words, in a mode
 abbrev pub runner : Caller → ModeState → Runner
@@ -115,16 +112,17 @@ runner by mode =
 
 -- a command is answered, and does no more
 abbrev pub answered : ModeState → Value → Plan
-answered mode reply = record { reply = reply; proto = mode.proto; deed = Nothing }
+answered mode reply = record { reply = Some reply; proto = mode.proto; deed = Nothing }
 
--- the plan of what is done to keys and answered, and made of a connection in a mode, which ends so
+-- the plan of what is done to keys and answered, and made of a connection in a mode, and of whom
+-- that ends; where all end nothing is answered
 pub record IsPlan (plan : Plan) (before : ModeState) (does : words.Effect) (makes : OwnEffect)
     (ends : Ending) : Type 0 where
-  pub reply : plan.reply ≡ does.reply
+  pub reply : plan.reply ≡ (if is_stopping ends then None else Some does.reply)
   pub signals : signals_of plan.deed ≡ does.signalled
   pub memory : memory_of plan.deed ≡ makes.memory
   pub mode : mode_by plan.deed before ≡ makes.mode
-  pub ending : quits plan.deed ≡ is_quitting ends
+  pub ending : ending_by plan.deed ≡ ends
   pub proto : plan.proto ≡ makes.mode.proto
   pub sound : IsSound plan.deed
 
@@ -138,7 +136,7 @@ PlansRead plan by words read space moment =
 abbrev pub PlansWords : Plan → Runner → List (List ℕ) → Space → ℕ → Type 0
 PlansWords plan by words space moment =
     IsPlan plan by.mode (ran_over space by words moment) (made_of words by)
-    (ending_of (served_reading words))
+    (ending_in by.mode (served_reading words))
 
 -- and they leave the keyspace
 pub record IsQuiet (plan : Plan) (by : Runner) (words : List (List ℕ))

@@ -7,13 +7,14 @@ ghost use Rattle.serial_model.specs.declared.history.BookCall.TheVariants as cal
 ghost use Rattle.serial_model.specs.declared.effect.EntryKind.TheVariants as kind;
 ghost use Rattle.serial_model.specs.EntryEffects.{bare_effect};
 ghost use Rattle.serial_model.specs.History.{IsLegal, gives_on, latest, reads_on};
-ghost use Rattle.serial_model.specs.History.{runs_on};
+ghost use Rattle.serial_model.specs.History.{is_stopped, runs_on};
 ghost use Rattle.serial_model.specs.History.{unsent};
 ghost use Rattle.serial_model.specs.Steps.{AreValid, BookStep, IsCallable};
 ghost use Rattle.server_book.specs.BookState.{HasRun, IsAccepted, IsClear, IsRefusal, IsTurn};
 ghost use Rattle.server_book.specs.BookState.{drops_after, effect_after, empty_book, posts_after};
 ghost use Rattle.server_book.specs.Log.{base, kept, runs};
 
+use super::ends::Ends;
 use super::log::Log;
 use super::plan::{Plan, Played, command_of, play, runs};
 use super::stores::Stores;
@@ -31,6 +32,8 @@ pub struct Book {
     limits: Limits,
     log: Log,
     stores: Stores,
+    /// A SHUTDOWN ran.
+    stopped: bool,
     effect: Option<Effect>,
 }
 
@@ -39,13 +42,12 @@ pub struct Book {
 pub struct RunDone {
     pub entry: u64,
     pub expired: Words,
-    pub reply: Value,
+    pub reply: Option<Value>,
     pub signalled: Signalled,
 }
 
 impl Model for Book {
     ghost use Rattle.std.specs.Coded.{codes};
-    ghost use Rattle.std.specs.Prelude.{[]};
     ghost use Rattle.resp_value.specs.TreeCoding.{tree_code};
     ghost use Rattle.server_book.specs.BookState.{IsBook, BookState};
 
@@ -57,11 +59,11 @@ impl Model for Book {
       limits = b.limits;
       past = b.log.past;
       posts = b.stores.connections.posts;
-      drops = [];
+      drops = b.stores.connections.drops;
       effect = b.effect;
     } };
 
-    ghost invariant = { λ b. IsBook b.limits b.log b.stores };
+    ghost invariant = { λ b. IsBook b.limits b.stopped b.log b.stores };
 }
 
 // The command that words are, or what is wrong with them.
@@ -115,7 +117,8 @@ impl Book {
         Ok(Book {
             limits,
             log: Log::new(alloc, limits.history_max),
-            stores: Stores::new(alloc, limits.table_max)?,
+            stores: Stores::new(alloc, limits.table_max),
+            stopped: false,
             effect: None,
         })
     }
@@ -169,9 +172,7 @@ impl Book {
     pub fn last_drops(&self) -> &[u64]
         ensures { result.now ≡ self.now.drops }
     {
-        // no limit of what waits for a connection is in force yet
-        let _limits = &self.limits;
-        &[]
+        self.stores.connections.drops()
     }
 
     /// The effect of the entry that the last turn added, if it added one.
@@ -179,6 +180,13 @@ impl Book {
         ensures { option_map (λ e. e.now) result ≡ self.now.effect }
     {
         self.effect.as_ref()
+    }
+
+    /// Whether a SHUTDOWN ran: no connection is admitted any more, and none runs.
+    pub fn is_stopped(&self) -> bool
+        ensures { result ≡ is_stopped self.now.limits self.now.past }
+    {
+        self.stopped
     }
 
     /// Whether a Run of this connection is accepted.
@@ -216,7 +224,14 @@ impl Book {
         ensures { IsRefusal self.now call.now result }
     {
         match call {
-            BookCall::Admit => None,
+            // Whether a key is due at a Tick is not known yet.
+            BookCall::Admit | BookCall::Tick { .. } => {
+                if self.stopped {
+                    Some(BookReply::Refused(BookRefusal::Stopped))
+                } else {
+                    None
+                }
+            }
             BookCall::Run { id, .. } => {
                 if self.runs_on(*id) {
                     None
@@ -224,8 +239,6 @@ impl Book {
                     Some(BookReply::Refused(BookRefusal::Gone { id: *id }))
                 }
             }
-            // Whether a key is due is not known yet.
-            BookCall::Tick { .. } => None,
             BookCall::Take { id, .. } => {
                 if self.gives_on(*id) {
                     if self.waiting(*id) > 0 {
@@ -283,18 +296,12 @@ impl Book {
         let entry = self.log.next();
         // no id is past the number of connections
         let _connections = self.stores.connections.count();
+        let mode = self.stores.connections.mode(id);
         let Played {
             expired,
             plan,
             undo,
-        } = play(
-            &mut self.stores.space,
-            by,
-            self.stores.connections.mode(id),
-            &words,
-            read,
-            moment,
-        )?;
+        } = play(&mut self.stores.space, by, mode, &words, read, moment)?;
         match self.stores.send_run(entry, id, expired.as_slice(), &plan) {
             Ok(()) => self.stores.space.keep_place(undo),
             Err(_) => {
@@ -303,8 +310,11 @@ impl Book {
             }
         }
         let Plan { reply, deed, .. } = plan;
-        let signalled = self.stores.settle(id, deed);
+        let ends = deed.ends(id, self.limits.out_max);
+        let signalled = self.stores.finish(entry, id, deed, ends);
+        self.stopped = self.stopped || ends.stops;
         self.log.push(Entry::Run { id, words, moment });
+        self.log.release(self.stores.connections.drops().len());
         Ok(RunDone {
             entry,
             expired,
@@ -332,7 +342,7 @@ impl Book {
             id,
             command: command_of(read, runs),
             expired,
-            reply: Some(reply),
+            reply,
             signalled,
             kind: EntryKind::Run,
         });
@@ -341,6 +351,7 @@ impl Book {
 
     // Where no key is due, nothing was taken out.
     fn tick(&mut self, now: u64) -> Result<BookReply, NoMemory>
+        requires accepted { IsAccepted self.old.limits self.old.past (call.Tick now) }
         requires none { IsClear self.old }
         ensures ok { IfOk result (λ reply. IsTurn self.old (call.Tick now) reply self.new) }
         ensures err { OnErr result (self.new ≡ self.old) }
@@ -359,7 +370,10 @@ impl Book {
                 return Err(NoMemory);
             }
         }
+        self.stores
+            .end_all(entry, Ends::by_tick(self.limits.out_max));
         self.log.push(Entry::Tick { moment });
+        self.log.release(self.stores.connections.drops().len());
         self.effect = Some(tick_effect(self.stores.alloc, entry, keys));
         Ok(BookReply::Ticked { entry })
     }

@@ -5,7 +5,7 @@ ghost use Rattle.serial_model.specs.Actions.{spelled};
 ghost use Rattle.serial_model.specs.State as state;
 ghost use Rattle.serial_model.specs.State.{closed, keeps_bytes, may_take};
 ghost use Rattle.serial_model.specs.declared.standing.Standing.TheVariants.{Quit};
-ghost use Rattle.server_book.specs.Places.{HasNumber, bytes_in, fresh, gone, lost_one};
+ghost use Rattle.server_book.specs.Places.{HasNumber, bytes_in, ended_one, fresh, gone, lost_one};
 ghost use Rattle.track_modes.specs.Commands.{spent_mode};
 ghost use Rattle.track_modes.specs.ModeState as track;
 
@@ -246,16 +246,11 @@ impl Connection {
         }
     }
 
-    /// It ends by its own QUIT. What it has not taken can still be taken.
-    pub fn quit(&mut self)
+    // It ends by its own QUIT. What it has not taken can still be taken. It takes no memory.
+    fn quit(&mut self)
         requires { keeps_bytes self.old.standing ≡ true }
-        ensures { self.new
-            ≡ record self.old { standing = Quit; mode = spent_mode self.old.mode } }
+        ensures { self.new ≡ record self.old { standing = Quit } }
     {
-        match &mut self.kept {
-            Some(open) => open.mode.spend(),
-            None => unreachable!(),
-        }
         self.standing = Standing::Quit;
     }
 
@@ -325,6 +320,19 @@ impl Connection {
         match &mut self.kept {
             Some(open) => open.add_value(alloc, proto, value),
             None => unreachable!(),
+        }
+    }
+
+    /// It ends by a turn: one that quits keeps what it has not taken, and another is closed. It
+    /// takes no memory.
+    pub fn end(&mut self, quits: bool)
+        requires { keeps_bytes self.old.standing ≡ true }
+        ensures { self.new ≡ ended_one quits self.old }
+    {
+        if quits {
+            self.quit();
+        } else {
+            self.close();
         }
     }
 

@@ -1,12 +1,14 @@
 //! The plans of the commands that are none on data: of a connection alone, and of how it tracks.
 ghost use Rattle.std.specs.Prelude.{◌≡◌, ◌<◌, ◌^◌, ℕ, IfOk, Ok, None, true, false};
 ghost use Rattle.command_words.specs.declared.command.Command.TheVariants as commands;
+ghost use Rattle.command_words.specs.declared.command.SaveMode.{SaveMode};
 ghost use Rattle.command_words.specs.Effects.{has_row};
 ghost use Rattle.command_words.specs.Space.{Space};
 ghost use Rattle.serial_model.specs.History.{served};
 ghost use Rattle.serial_model.specs.Modes.{accepted, is_barred};
 ghost use Rattle.server_book.specs.Places.{HasNumber};
 ghost use Rattle.server_book.specs.Plans.{IsPlanOf, IsQuiet, runner};
+ghost use Rattle.server_book.specs.declared.plan.Caller.{Caller};
 ghost use Rattle.track_modes.specs.Commands.{allows, changed, ended, fault_at, registers};
 
 use super::deed::Deed;
@@ -73,7 +75,7 @@ fn plan_hello(
     };
     let next = applied(mode, command)?;
     Ok(Plan {
-        reply,
+        reply: Some(reply),
         proto: next.peer().proto,
         deed: Deed::Become(next),
     })
@@ -93,7 +95,7 @@ fn plan_subscribe(
     let reply = subscribe_reply(by.alloc, channel)?;
     let next = applied(mode, command)?;
     Ok(Plan {
-        reply,
+        reply: Some(reply),
         proto: next.peer().proto,
         deed: Deed::Become(next),
     })
@@ -113,7 +115,7 @@ fn plan_unsubscribe(
     let next = applied(mode, command)?;
     let reply = unsubscribe_reply(by.alloc, channel, mode, next.peer().subscribed)?;
     Ok(Plan {
-        reply,
+        reply: Some(reply),
         proto: next.peer().proto,
         deed: Deed::Become(next),
     })
@@ -125,7 +127,7 @@ fn plan_reset(by: Caller, mode: &Mode) -> Result<Plan, NoMemory>
     ensures { IfOk result (λ p. IsPlanOf p (runner by mode.now) commands.Reset) }
 {
     Ok(Plan {
-        reply: Value::Simple(Octets::from_slice(by.alloc, b"RESET")?),
+        reply: Some(Value::Simple(Octets::from_slice(by.alloc, b"RESET")?)),
         proto: Proto::Two,
         deed: Deed::Forget(Mode::new(by.alloc)),
     })
@@ -136,10 +138,23 @@ fn plan_quit(by: Caller, mode: &Mode) -> Result<Plan, NoMemory>
     ensures { IfOk result (λ p. IsPlanOf p (runner by mode.now) commands.Quit) }
 {
     Ok(Plan {
-        reply: accepted(by.alloc)?,
+        reply: Some(accepted(by.alloc)?),
         proto: mode.peer().proto,
         deed: Deed::Quit,
     })
+}
+
+// A SHUTDOWN that stops the server is not answered.
+#[tactic(auto, unfolding(track_modes::specs::Commands::fault_at))]
+fn plan_shutdown(mode: &Mode) -> Plan
+    ensures { (by : Caller) (save : SaveMode)
+        → IsPlanOf result (runner by mode.now) (commands.Shutdown save) }
+{
+    Plan {
+        reply: None,
+        proto: mode.peer().proto,
+        deed: Deed::Shutdown,
+    }
 }
 
 #[tactic(auto, unfolding(track_modes::specs::Commands::fault_at))]
@@ -161,7 +176,7 @@ fn plan_tracking(by: Caller, mode: &Mode, options: &TrackOptions) -> Result<Plan
             let reply = accepted(by.alloc)?;
             next.spend();
             Ok(Plan {
-                reply,
+                reply: Some(reply),
                 proto: next.peer().proto,
                 deed: if options.on {
                     Deed::Track(next)
@@ -187,7 +202,7 @@ fn plan_caching(by: Caller, mode: &Mode, is_yes: bool) -> Result<Plan, NoMemory>
     match next.apply_caching(is_yes) {
         Ok(()) => {
             Ok(Plan {
-                reply: accepted(by.alloc)?,
+                reply: Some(accepted(by.alloc)?),
                 proto: next.peer().proto,
                 deed: Deed::Become(next),
             })
@@ -200,11 +215,10 @@ fn plan_caching(by: Caller, mode: &Mode, is_yes: bool) -> Result<Plan, NoMemory>
 }
 
 #[tactic(auto, unfolding(track_modes::specs::Commands::fault_at))]
-fn plan_getredir(by: Caller, mode: &Mode) -> Plan
+fn plan_getredir(mode: &Mode) -> Plan
     requires { HasNumber mode.now }
-    ensures { IsPlanOf result (runner by mode.now) commands.ClientGetRedir }
+    ensures { (by : Caller) → IsPlanOf result (runner by mode.now) commands.ClientGetRedir }
 {
-    let _by = by;
     answered(mode, Value::Number(redirect_number(mode)))
 }
 
@@ -237,10 +251,11 @@ pub fn plan_command(
         Command::Hello(word) => plan_hello(by, mode, command, word),
         Command::Reset => plan_reset(by, mode),
         Command::Quit => plan_quit(by, mode),
+        Command::Shutdown(_) => Ok(plan_shutdown(mode)),
         Command::ClientId => plan_id(by, mode),
         Command::ClientTracking(options) => plan_tracking(by, mode, options),
         Command::ClientCaching(is_yes) => plan_caching(by, mode, *is_yes),
-        Command::ClientGetRedir => Ok(plan_getredir(by, mode)),
+        Command::ClientGetRedir => Ok(plan_getredir(mode)),
         Command::ClientTrackingInfo => plan_info(by, mode),
         Command::Subscribe(channel) => plan_subscribe(by, mode, command, channel),
         Command::Unsubscribe(channel) => plan_unsubscribe(by, mode, command, channel),

@@ -5,20 +5,21 @@ ghost use Rattle.std.specs.Prelude.{List, ℕ, Option};
 ghost use Rattle.redirect.specs.Messages.{message_of, notice_of, push_of};
 ghost use Rattle.resp_value.specs.declared.value.Proto.TheVariants.{Two, Three};
 ghost use Rattle.serial_model.specs.Actions.{peer_at, route_at, spelled, to_one, way};
-ghost use Rattle.serial_model.specs.declared.standing.Standing.TheVariants.{Quit};
 ghost use Rattle.serial_model.specs.Tracking.{has_id, told_to};
 ghost use Rattle.server_book.specs.Connections.{IsId, IsOpen, ConnectionsState, connection_at};
 ghost use Rattle.server_book.specs.Connections.{gives, is_there, is_live, reads, with_connection};
+ghost use Rattle.server_book.specs.Endings.{ArePostedTo, IsWithin, ended_if, is_ending, is_past};
 ghost use Rattle.server_book.specs.Places.{HasNumber, fresh, gone};
 ghost use Rattle.server_book.specs.Sendings.{IsMessage, IsOpenRoute, before_posts, is_lost};
 ghost use Rattle.server_book.specs.Sendings.{lost_marked, modes_in, passes, queued, size_of};
 ghost use Rattle.server_book.specs.Sendings.{passed_over, told_keys, tracking_ids, unpassed};
-ghost use Rattle.server_book.specs.Sendings.{end_post, end_posts, message_post, with_sendings};
+ghost use Rattle.server_book.specs.Sendings.{end_posts, message_post, with_sendings};
 ghost use Rattle.server_book.specs.Sendings.{with_told};
 ghost use Rattle.track_modes.specs.Commands.{spent_mode};
 ghost use Rattle.track_modes.specs.ModeState.{redirect_of};
 
 use super::connection::Connection;
+use super::ends::Ends;
 use super::messages::{message_like, push_of};
 use redirect::{Route, notice, route};
 use resp_value::{NoMemory, Octets, Proto, Value};
@@ -37,10 +38,14 @@ pub struct Connections {
     /// Those whose messages were due where the target of their redirection had ended, until the
     /// turn is settled.
     lost: Vec<u64>,
+    /// Those that the last turn ended, though they did not quit.
+    drops: Vec<u64>,
+    /// How many have not ended. Room is kept for the end of each of them.
+    live: usize,
 }
 
 impl Model for Connections {
-    ghost use Rattle.std.specs.Prelude.{◌≤◌, vec_capacity};
+    ghost use Rattle.std.specs.Prelude.{◌-◌, vec_capacity, vec_len};
     ghost use Rattle.server_book.specs.Connections.{ConnectionsState, HoldsPosts};
 
     ghost Value = { ConnectionsState };
@@ -49,10 +54,12 @@ impl Model for Connections {
       items = c.items.items;
       posts = c.posts.items;
       lost = c.lost.items;
+      drops = c.drops.items;
     } };
 
     ghost invariant = { λ c.
-        HoldsPosts c.items.items c.posts.items c.lost.items (vec_capacity c.posts) };
+        HoldsPosts c.items.items c.posts.items c.lost.items c.live
+        (vec_capacity c.posts - vec_len c.posts) (vec_capacity c.drops - vec_len c.drops) };
 }
 
 fn size_of(what: Posted) -> u64
@@ -75,15 +82,17 @@ fn passes(but: Option<u64>, id: u64) -> bool
 }
 
 impl Connections {
-    pub fn new(alloc: Global) -> Result<Connections, NoMemory>
-        ensures { IfOk result (λ c. c ≡ record { items = []; posts = []; lost = [] }) }
+    pub fn new(alloc: Global) -> Connections
+        ensures { result ≡ record { items = []; posts = []; lost = []; drops = [] } }
     {
-        Ok(Connections {
+        Connections {
             alloc,
             items: Vec::new(alloc),
-            posts: Vec::with_capacity(alloc, 1)?,
+            posts: Vec::new(alloc),
             lost: Vec::new(alloc),
-        })
+            drops: Vec::new(alloc),
+            live: 0,
+        }
     }
 
     pub fn count(&self) -> usize
@@ -100,11 +109,19 @@ impl Connections {
         self.posts.as_slice()
     }
 
-    /// A turn begins: nothing is sent yet.
+    /// Those that the last turn ended, though they did not quit, in order of their ids.
+    pub fn drops(&self) -> &[u64]
+        ensures { result.now ≡ self.now.drops }
+    {
+        self.drops.as_slice()
+    }
+
+    /// A turn begins: nothing is sent yet, and nobody has ended by it.
     pub fn clear_posts(&mut self)
-        ensures { self.new ≡ record self.old { posts = [] } }
+        ensures { self.new ≡ record self.old { posts = []; drops = [] } }
     {
         self.posts.clear();
+        self.drops.clear();
     }
 
     // Whether a connection of this id was admitted.
@@ -150,7 +167,11 @@ impl Connections {
             (self.new ≡ record self.old { items = self.old.items ++ fresh ∷ [] }) }
         ensures err { OnErr result (self.new ≡ self.old) }
     {
+        // Room for its end, and for that of each of the others.
+        self.posts.reserve(self.live + 1)?;
+        self.drops.reserve(self.live + 1)?;
         self.items.push(Connection::fresh(self.alloc)?)?;
+        self.live += 1;
         Ok(())
     }
 
@@ -198,18 +219,6 @@ impl Connections {
     {
         let connection = &mut self.items[(id - 1) as usize];
         connection.spend();
-    }
-
-    /// The connection ends by its own QUIT; its end was sent. It takes no memory.
-    pub fn quit(&mut self, id: u64)
-        requires { IsOpen self.old.items id }
-        ensures { let c = connection_at self.old.items id in
-            let ended = record c { standing = Quit; mode = spent_mode c.mode } in
-            let items = with_connection self.old.items id ended in
-            self.new ≡ record self.old { items = items } }
-    {
-        let connection = &mut self.items[(id - 1) as usize];
-        connection.quit();
     }
 
     /// The connection itself where it is told of no key that it changes.
@@ -263,29 +272,13 @@ impl Connections {
             }) }
         ensures err { OnErr result (self.new ≡ self.old) }
     {
-        self.posts.reserve(1)?;
+        self.posts.reserve(self.live + 1)?;
         let connection = &mut self.items[(to - 1) as usize];
         let length = connection.add_value(self.alloc, proto, value)?;
         self.posts.push_reserved(Post {
             entry,
             id: to,
             what: Posted::Message { length },
-        });
-        Ok(())
-    }
-
-    /// Sends the connection's end, behind all that it was sent.
-    pub fn send_end(&mut self, entry: u64, to: u64) -> Result<(), NoMemory>
-        requires { IsId self.old.items to }
-        ensures ok { OnOk result
-            (self.new ≡ record self.old { posts = self.old.posts ++ end_post entry to ∷ [] }) }
-        ensures err { OnErr result (self.new ≡ self.old) }
-    {
-        self.posts.reserve(1)?;
-        self.posts.push_reserved(Post {
-            entry,
-            id: to,
-            what: Posted::End,
         });
         Ok(())
     }
@@ -535,16 +528,18 @@ impl Connections {
         }
     }
 
-    /// Takes back all that the turn sent, the last first, and forgets who was found lost. It takes
-    /// no memory.
+    /// Takes back all that the turn sent, the last first, and forgets who was found lost. Nobody
+    /// has ended by it. It takes no memory.
     pub fn take_back(&mut self)
         ensures { self.new ≡ record {
           items = before_posts self.old.posts self.old.items;
           posts = [];
           lost = [];
+          drops = [];
         } }
     {
         self.lost.clear();
+        self.drops.clear();
         'posts: while let Some(post) = self.posts.pop() {
             let connection = &mut self.items[(post.id - 1) as usize];
             let size = size_of(post.what) as usize;
@@ -569,11 +564,81 @@ impl Connections {
         let was_live = connection.is_live();
         connection.close();
         if was_live {
+            self.live -= 1;
             self.posts.push_reserved(Post {
                 entry,
                 id,
                 what: Posted::End,
             });
         }
+    }
+
+    // Whether more bytes wait for the connection than so many.
+    fn is_past(&self, limit: u64, id: u64) -> bool
+        requires { IsId self.now.items id }
+        ensures { result ≡ is_past limit self.now.items id }
+    {
+        self.items[(id - 1) as usize].size() as u64 > limit
+    }
+
+    // Whether the connection is one of those whom a turn ends.
+    fn is_ending(&self, ends: Ends, id: u64) -> bool
+        requires { IsId self.now.items id }
+        ensures { result ≡ is_ending ends self.now.items id }
+    {
+        self.items[(id - 1) as usize].is_live()
+            && (ends.quits(id) || ends.stops || self.is_past(ends.limit, id))
+    }
+
+    /// Between which numbers those are whom a turn ends: their ids are past the first, and not past
+    /// the second.
+    pub fn ending_within(&self, ends: Ends) -> (u64, u64)
+        requires by { ends.quits ≡ true → IsId self.now.items ends.by }
+        requires posted { ArePostedTo ends.limit self.now.items self.now.posts }
+        ensures { IsWithin ends self.now.items result.0 result.1 }
+    {
+        let count = self.items.len() as u64;
+        if ends.stops {
+            return (0, count);
+        }
+        let mut after = count;
+        let mut last = 0;
+        if ends.quits {
+            after = ends.by - 1;
+            last = ends.by;
+        }
+        for (place, post) in self.posts.iter().enumerate() {
+            if self.is_past(ends.limit, post.id) {
+                after = after.min(post.id - 1);
+                last = last.max(post.id);
+            }
+        }
+        (after, last.max(after))
+    }
+
+    /// Ends the connection where it is one of those whom a turn ends: its end is sent behind all
+    /// else; one that quits keeps what it has not taken, and another is closed. Answers whether it
+    /// ended. It takes no memory.
+    pub fn end(&mut self, entry: u64, ends: Ends, id: u64) -> bool
+        requires { IsId self.old.items id }
+        ensures is { result ≡ is_ending ends self.old.items id }
+        ensures ended { self.new ≡ ended_if result entry ends id self.old }
+    {
+        if !self.is_ending(ends, id) {
+            return false;
+        }
+        let quits = ends.quits(id);
+        let connection = &mut self.items[(id - 1) as usize];
+        connection.end(quits);
+        self.live -= 1;
+        self.posts.push_reserved(Post {
+            entry,
+            id,
+            what: Posted::End,
+        });
+        if !quits {
+            self.drops.push_reserved(id);
+        }
+        true
     }
 }

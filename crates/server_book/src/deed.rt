@@ -1,10 +1,9 @@
 //! What a request does besides its reply.
 ghost use Rattle.std.specs.Prelude.{◌≡◌};
-ghost use Rattle.server_book.specs.Plans.{signals_of};
+ghost use Rattle.server_book.specs.Endings.{ends_of};
 
-use command_words::Signalled;
+use super::ends::Ends;
 use resp_value::Words;
-use std::alloc::Global;
 use track_modes::Mode;
 
 /// Whom a request tells, what its connection remembers or registers by it, and what it makes of
@@ -24,6 +23,22 @@ pub enum Deed {
     Track(Mode),
     /// And it forgets all keys and its prefixes.
     Forget(Mode),
-    /// The connection ends behind its reply, and forgets all keys and its prefixes.
+    /// The connection ends behind all that the request sends.
     Quit,
+    /// And so do all.
+    Shutdown,
+}
+
+impl Deed {
+    /// Whom the request of a connection ends, where no more bytes may wait for one than the limit.
+    pub fn ends(&self, by: u64, limit: u64) -> Ends
+        ensures { result ≡ ends_of by self.now limit }
+    {
+        Ends {
+            by,
+            quits: matches!(self, Deed::Quit),
+            stops: matches!(self, Deed::Shutdown),
+            limit,
+        }
+    }
 }

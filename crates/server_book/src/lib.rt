@@ -6,6 +6,7 @@ mod connection;
 mod connection_plan;
 mod connections;
 mod deed;
+mod ends;
 mod hello;
 mod log;
 mod messages;

@@ -162,6 +162,16 @@ impl Log {
         }
     }
 
+    /// So many connections fewer can be closed. It takes no memory.
+    pub fn release(&mut self, count: usize)
+        requires { count ≤ self.old.closable }
+        ensures past { self.new.past ≡ self.old.past }
+        ensures most { self.new.most ≡ self.old.most }
+        ensures closable { self.new.closable ≡ self.old.closable - count }
+    {
+        self.closable -= count;
+    }
+
     /// Adds an entry where there is a place for it. It takes no memory.
     pub fn push(&mut self, entry: Entry)
         requires { HasPlace self.old entry }

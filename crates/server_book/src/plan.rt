@@ -31,7 +31,8 @@ use track_modes::Mode;
 
 #[derive(Drop)]
 pub struct Plan {
-    pub reply: Value,
+    /// There is none where the server stops.
+    pub reply: Option<Value>,
     /// The protocol that the reply is spelled in.
     pub proto: Proto,
     pub deed: Deed,
@@ -133,6 +134,7 @@ pub fn is_served(command: &Command) -> bool
         | Command::Hello(_)
         | Command::Reset
         | Command::Quit
+        | Command::Shutdown(_)
         | Command::ClientId
         | Command::ClientTracking(_)
         | Command::ClientCaching(_)
@@ -215,7 +217,7 @@ fn play_data(
     } = space.run_due(command, moment)?;
     let deed = deed_of(mode, reads, done.signalled);
     let plan = Plan {
-        reply: done.reply,
+        reply: Some(done.reply),
         proto: mode.peer().proto,
         deed,
     };
@@ -240,7 +242,7 @@ pub fn answered(mode: &Mode, reply: Value) -> Plan
     ensures { result ≡ answered mode.now reply }
 {
     Plan {
-        reply,
+        reply: Some(reply),
         proto: mode.peer().proto,
         deed: Deed::Nothing,
     }

@@ -1,27 +1,31 @@
 //! What the server keeps beside its history, all of which follows from it.
 ghost use Rattle.std.specs.Prelude.{◌≡◌, ◌<◌, ◌∷◌, [], OnOk, OnErr, IfOk, None, true, Err};
+ghost use Rattle.std.specs.Prelude.{if◌then◌else◌};
 ghost use Rattle.command_words.specs.declared.command.WordFault.TheVariants as word;
 ghost use Rattle.std.specs.FinMap.{empty};
 ghost use Rattle.track_table.specs.Table.{dropped, kept, with_keys, without_connection};
 ghost use Rattle.track_table.specs.Table.{without_keys};
 ghost use Rattle.prefix_table.specs.Table as registrations;
-ghost use Rattle.serial_model.specs.Actions.{End};
 ghost use Rattle.serial_model.specs.Deadlines.{due_keys};
 ghost use Rattle.serial_model.specs.Modes.{target_of};
+ghost use Rattle.serial_model.specs.State.{for_each};
 ghost use Rattle.serial_model.specs.Tracking.{AreApart, drop_group, group, prefix_group, told_to};
 ghost use Rattle.serial_model.specs.Tracking.{whole_group};
 ghost use Rattle.server_book.specs.Connections.{IsId, IsOpen, connection_at, is_live};
+ghost use Rattle.server_book.specs.Endings.{ArePostedTo, HasEnded, ended_if, ending_ids};
+ghost use Rattle.server_book.specs.Endings.{is_ending};
 ghost use Rattle.server_book.specs.Places.{HasNumber};
 ghost use Rattle.server_book.specs.Plans.{IsSound, asks_broken, kept_by, mode_by, registered_by};
 ghost use Rattle.server_book.specs.Plans.{signals_of};
 ghost use Rattle.server_book.specs.RunSendings.{deed_done, reply_sent, run_sendings, settled};
 ghost use Rattle.server_book.specs.Sendings.{before_posts, is_broken_by, is_target, lost_marked};
 ghost use Rattle.server_book.specs.Sendings.{passed_over, told_at, tracking_ids, unpassed};
-ghost use Rattle.server_book.specs.Sendings.{with_sendings, with_told};
+ghost use Rattle.server_book.specs.Sendings.{with_told};
 ghost use Rattle.server_book.specs.Stores.{IsHeld, running};
 
 use super::connections::Connections;
 use super::deed::Deed;
+use super::ends::Ends;
 use super::messages::push_under;
 use super::plan::{Caller, Plan};
 use command_set::Database;
@@ -90,21 +94,21 @@ fn asks_broken(read: &Result<Command, WordFault>) -> bool
 }
 
 impl Stores {
-    pub fn new(alloc: Global, table_max: u64) -> Result<Stores, NoMemory>
+    pub fn new(alloc: Global, table_max: u64) -> Stores
         requires { 0 < table_max }
-        ensures space { IfOk result (λ s. s.space ≡ empty) }
-        ensures table { IfOk result (λ s. s.table ≡ record { limit = table_max; rows = [] }) }
-        ensures prefixes { IfOk result (λ s. s.prefixes ≡ []) }
-        ensures connections { IfOk result
-            (λ s. s.connections ≡ record { items = []; posts = []; lost = [] }) }
+        ensures space { result.space ≡ empty }
+        ensures table { result.table ≡ record { limit = table_max; rows = [] } }
+        ensures prefixes { result.prefixes ≡ [] }
+        ensures connections { result.connections
+            ≡ record { items = []; posts = []; lost = []; drops = [] } }
     {
-        Ok(Stores {
+        Stores {
             alloc,
             space: Database::new(alloc),
             table: TrackTable::new(alloc, table_max),
             prefixes: PrefixTable::new(alloc),
-            connections: Connections::new(alloc)?,
-        })
+            connections: Connections::new(alloc),
+        }
     }
 
     // Keys that are new may push out the oldest ones.
@@ -340,28 +344,6 @@ impl Stores {
         self.prefixes.remove_connection(id);
     }
 
-    // Sends the connection's end, and forgets what was kept for it.
-    fn end(&mut self, entry: u64, id: u64) -> Result<(), NoMemory>
-        requires id { IsId self.old.connections.items id }
-        ensures space { self.new.space ≡ self.old.space }
-        ensures table { OnOk result
-            (let rows = without_connection id self.old.table.rows in
-            self.new.table ≡ record self.old.table { rows = rows }) }
-        ensures prefixes { OnOk result
-            (self.new.prefixes ≡ registrations.without_connection id self.old.prefixes) }
-        ensures sent { OnOk result
-            (self.new.connections ≡ with_sendings entry ((id, End) ∷ []) self.old.connections) }
-        ensures err { OnErr result (self.new.table ≡ self.old.table) }
-        ensures err_prefixes { OnErr result (self.new.prefixes ≡ self.old.prefixes) }
-        ensures back { OnErr result
-            (before_posts self.new.connections.posts self.new.connections.items
-            ≡ before_posts self.old.connections.posts self.old.connections.items) }
-    {
-        self.connections.send_end(entry, id)?;
-        self.forget(id);
-        Ok(())
-    }
-
     // Tells those whom a request concerns, and keeps what it remembers or registers. Where memory
     // runs out all is as before, but for what was sent.
     fn carry_out(&mut self, entry: u64, id: u64, deed: &Deed) -> Result<(), NoMemory>
@@ -385,7 +367,7 @@ impl Stores {
             ≡ before_posts self.old.connections.posts self.old.connections.items) }
     {
         match deed {
-            Deed::Nothing | Deed::Become(_) => Ok(()),
+            Deed::Nothing | Deed::Become(_) | Deed::Quit | Deed::Shutdown => Ok(()),
             Deed::Track(mode) => self.prefixes.add_all(id, mode.tracking().prefixes()),
             Deed::Tell(keys) => self.tell_signalled(entry, id, keys.as_slice()),
             Deed::TellAll => self.tell_flush(entry),
@@ -394,7 +376,22 @@ impl Stores {
                 self.forget(id);
                 Ok(())
             }
-            Deed::Quit => self.end(entry, id),
+        }
+    }
+
+    // Sends the reply to a Run, if there is one.
+    fn send_reply(&mut self, entry: u64, id: u64, plan: &Plan) -> Result<(), NoMemory>
+        requires id { IsOpen self.old.connections.items id }
+        ensures space { self.new.space ≡ self.old.space }
+        ensures table { self.new.table ≡ self.old.table }
+        ensures prefixes { self.new.prefixes ≡ self.old.prefixes }
+        ensures sent { OnOk result
+            (self.new.connections ≡ reply_sent entry id plan.now self.old.connections) }
+        ensures err { OnErr result (self.new.connections ≡ self.old.connections) }
+    {
+        match &plan.reply {
+            Some(reply) => self.connections.send(entry, id, plan.proto, reply),
+            None => Ok(()),
         }
     }
 
@@ -418,7 +415,7 @@ impl Stores {
             (before_posts self.new.connections.posts self.new.connections.items
             ≡ before_posts self.old.connections.posts self.old.connections.items) }
     {
-        self.connections.send(entry, id, plan.proto, &plan.reply)?;
+        self.send_reply(entry, id, plan)?;
         self.carry_out(entry, id, &plan.deed)
     }
 
@@ -475,6 +472,7 @@ impl Stores {
         requires id { IsOpen self.old.connections.items id }
         requires none { self.old.connections.posts ≡ [] }
         requires none_lost { self.old.connections.lost ≡ [] }
+        requires none_dropped { self.old.connections.drops ≡ [] }
         requires apart { AreApart expired.now }
         requires sound { IsSound plan.now.deed }
         ensures space { self.new.space ≡ self.old.space }
@@ -499,9 +497,9 @@ impl Stores {
         }
     }
 
-    /// What a request makes of its connection, and which redirections it finds broken, come last,
-    /// since they can't fail. Answers what the request signals. It takes no memory.
-    pub fn settle(&mut self, id: u64, deed: Deed) -> Signalled
+    // What a request makes of its connection, and which redirections it finds broken, come behind
+    // all that may fail. Answers what the request signals. It takes no memory.
+    fn settle(&mut self, id: u64, deed: Deed) -> Signalled
         requires open { IsOpen self.old.connections.items id }
         requires number { HasNumber
             (mode_by deed (connection_at self.old.connections.items id).mode) }
@@ -514,7 +512,7 @@ impl Stores {
         self.connections.mark_lost();
         let none = Words::new(self.alloc);
         match deed {
-            Deed::Nothing => self.connections.spend(id),
+            Deed::Nothing | Deed::Quit | Deed::Shutdown => self.connections.spend(id),
             Deed::Tell(keys) => {
                 self.connections.spend(id);
                 return Signalled::Keys(keys);
@@ -527,9 +525,75 @@ impl Stores {
             Deed::Become(mode) => self.connections.set_mode(id, mode),
             Deed::Track(mode) => self.connections.renew(id, mode),
             Deed::Forget(mode) => self.connections.renew(id, mode),
-            Deed::Quit => self.connections.quit(id),
         }
         Signalled::Keys(none)
+    }
+
+    // Ends the connection where it is one of those whom a turn ends, and forgets what was kept for
+    // it. It takes no memory.
+    fn end_one(&mut self, entry: u64, ends: Ends, id: u64)
+        requires { IsId self.old.connections.items id }
+        ensures space { self.new.space ≡ self.old.space }
+        ensures table { let ended = is_ending ends self.old.connections.items id in
+            let rows = self.old.table.rows in
+            self.new.table ≡ record self.old.table {
+              rows = if ended then without_connection id rows else rows;
+            } }
+        ensures prefixes { let ended = is_ending ends self.old.connections.items id in
+            let left = registrations.without_connection id self.old.prefixes in
+            self.new.prefixes ≡ if ended then left else self.old.prefixes }
+        ensures connections { let ended = is_ending ends self.old.connections.items id in
+            self.new.connections ≡ ended_if ended entry ends id self.old.connections }
+    {
+        if !self.connections.end(entry, ends, id) {
+            return;
+        }
+        self.forget(id);
+    }
+
+    /// Ends those whom a turn ends, in order of their ids, and forgets what was kept for them. It
+    /// takes no memory.
+    pub fn end_all(&mut self, entry: u64, ends: Ends)
+        requires by { ends.quits ≡ true → IsId self.old.connections.items ends.by }
+        requires posted { let c = self.old.connections in ArePostedTo ends.limit c.items c.posts }
+        ensures space { self.new.space ≡ self.old.space }
+        ensures table { let ids = ending_ids ends self.old.connections.items in
+            let rows = for_each without_connection ids self.old.table.rows in
+            self.new.table ≡ record self.old.table { rows = rows } }
+        ensures prefixes { let ids = ending_ids ends self.old.connections.items in
+            self.new.prefixes
+            ≡ for_each registrations.without_connection ids self.old.prefixes }
+        ensures connections { HasEnded entry ends self.old.connections self.new.connections }
+    {
+        let (after, last) = self.connections.ending_within(ends);
+        for place in after..last {
+            self.end_one(entry, ends, place + 1);
+        }
+    }
+
+    /// What a request makes of its connection, and then those end whom it ends. Answers what the
+    /// request signals. It takes no memory.
+    pub fn finish(&mut self, entry: u64, id: u64, deed: Deed, ends: Ends) -> Signalled
+        requires open { IsOpen self.old.connections.items id }
+        requires number { HasNumber
+            (mode_by deed (connection_at self.old.connections.items id).mode) }
+        requires by { ends.by ≡ id }
+        requires posted { ArePostedTo ends.limit (settled id deed self.old.connections).items
+            self.old.connections.posts }
+        ensures signalled { result ≡ signals_of deed }
+        ensures space { self.new.space ≡ self.old.space }
+        ensures table { let c = settled id deed self.old.connections in
+            let rows = for_each without_connection (ending_ids ends c.items) self.old.table.rows in
+            self.new.table ≡ record self.old.table { rows = rows } }
+        ensures prefixes { let c = settled id deed self.old.connections in
+            self.new.prefixes ≡ for_each registrations.without_connection
+            (ending_ids ends c.items) self.old.prefixes }
+        ensures connections { let settled = settled id deed self.old.connections in
+            HasEnded entry ends settled self.new.connections }
+    {
+        let signalled = self.settle(id, deed);
+        self.end_all(entry, ends);
+        signalled
     }
 
     // Whether the connection's redirection is broken, or is found so where these keys leave: those
@@ -538,6 +602,7 @@ impl Stores {
         requires id { IsId self.old.connections.items id }
         requires none { self.old.connections.posts ≡ [] }
         requires none_lost { self.old.connections.lost ≡ [] }
+        requires none_dropped { self.old.connections.drops ≡ [] }
         requires apart { AreApart keys.now }
         ensures space { self.new.space ≡ self.old.space }
         ensures table { self.new.table ≡ self.old.table }
@@ -570,6 +635,7 @@ impl Stores {
         requires id { IsId self.old.connections.items id }
         requires none { self.old.connections.posts ≡ [] }
         requires none_lost { self.old.connections.lost ≡ [] }
+        requires none_dropped { self.old.connections.drops ≡ [] }
         ensures space { self.new.space ≡ self.old.space }
         ensures table { self.new.table ≡ self.old.table }
         ensures prefixes { self.new.prefixes ≡ self.old.prefixes }
@@ -592,6 +658,7 @@ impl Stores {
         requires id { IsId self.old.connections.items id }
         requires none { self.old.connections.posts ≡ [] }
         requires none_lost { self.old.connections.lost ≡ [] }
+        requires none_dropped { self.old.connections.drops ≡ [] }
         ensures space { self.new.space ≡ self.old.space }
         ensures table { self.new.table ≡ self.old.table }
         ensures prefixes { self.new.prefixes ≡ self.old.prefixes }
@@ -621,6 +688,7 @@ impl Stores {
     pub fn send_tick(&mut self, entry: u64, expired: &[Octets]) -> Result<(), NoMemory>
         requires none { self.old.connections.posts ≡ [] }
         requires none_lost { self.old.connections.lost ≡ [] }
+        requires none_dropped { self.old.connections.drops ≡ [] }
         requires apart { AreApart expired.now }
         ensures space { self.new.space ≡ self.old.space }
         ensures prefixes { self.new.prefixes ≡ self.old.prefixes }

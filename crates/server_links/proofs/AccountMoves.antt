@@ -22,7 +22,6 @@ use Rattle.server_links.specs.declared.direction.Eof.{Eof}
 use Rattle.server_links.specs.declared.direction.Eof.TheVariants as eof
 use Rattle.server_links.specs.Directions.{cut, finished, is_open, is_queued, put, put_by, queued}
 use Rattle.server_links.specs.Directions.{without_bytes, past_eof}
-use Rattle.server_links.specs.EntryLines.{reply_lines}
 use Rattle.server_links.specs.OneHistory.{read_on}
 use Rattle.server_links.specs.Outcome.{Outcome, and_then, stays}
 use Rattle.server_links.specs.Session.{Session, with_past, with_link, with_up, with_down}
@@ -31,7 +30,7 @@ use Rattle.server_links.specs.Moves.{send_all, send, cut_off, move_of, moved, ha
 use Rattle.server_links.specs.Moves.{end_down, with_end}
 use Rattle.server_links.specs.Moves.{eof_lines, read_bytes, read_eof, receive_all, receive, flow}
 use Rattle.std.proofs.lemmas.Bool.Decides.{nat_tests}
-use Rattle.server_links.proofs.Carries.{mute_reply, take_carries}
+use Rattle.server_links.proofs.Carries.{mute_turn, take_carries, told}
 use Rattle.server_links.proofs.Endings.{takes_same}
 use Rattle.server_links.proofs.Moving.{every_turned, every_read, every_serve_all, every_send_all}
 use Rattle.server_links.proofs.Moving.{every_take}
@@ -112,8 +111,7 @@ module _ (heard said : List ℕ) where
       keeps_then (Account heard said) (InHand given heard said) (Account heard said) (Part said) s
       (turned s [] t) _ (every_turned s [] t (take_carries s most))
       (keeps_quiet (Account heard said) (InHand given heard said) (Part said) s (with_past s t.past)
-      (reply_lines s.link.name [] t.reply) None
-      (mute_reply s.link.name s.link.name [] t.reply)
+      (told s [] t) None (mute_turn s.link.name s.limits s.names s.link.name [] t)
       (λ read a. let h = take_in_hand most read s opened a in
       (account_part heard said read s a, (λ e. h), hand_part given read _ h)))
       (λ u. keeps_quiet (InHand given heard said) (Account heard said) (Part said) u

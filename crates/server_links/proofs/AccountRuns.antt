@@ -15,28 +15,27 @@ use Rattle.serial_model.specs.declared.history.Entry.{Entry}
 use Rattle.serial_model.specs.declared.history.BookCall.TheVariants as call
 use Rattle.serial_model.specs.History.{latest, reads_on, stream, taken, runs_of, runs_on}
 use Rattle.serial_model.specs.Steps.{Turn, book_step, gone, running}
-use Rattle.serial_model.proofs.Standings.{reads_run}
 use Rattle.serial_model.proofs.Turning.{step_gave, step_runs, run_step}
 use Rattle.server_links.specs.declared.direction.Direction.{Direction}
 use Rattle.server_links.specs.declared.fault.WorldFault.TheVariants.{NothingThere}
 use Rattle.server_links.specs.Directions.{is_open, without}
-use Rattle.server_links.specs.EntryLines.{reply_lines}
 use Rattle.server_links.specs.OneHistory.{read_on}
 use Rattle.server_links.specs.Outcome.{Outcome, stays, refuses, and_then}
 use Rattle.server_links.specs.Session.{Session, with_past, with_link, with_up, with_reader}
 use Rattle.server_links.specs.Moves.{turned, turn, next_read, run_one, run_all, close, stop}
-use Rattle.server_links.specs.Moves.{rest_read, run_requests, run_fed, stopped_at, feed, serve_all}
-use Rattle.server_links.specs.Moves.{serve}
+use Rattle.server_links.specs.Moves.{stop_open, rest_read, run_requests, run_fed, stopped_at, feed}
+use Rattle.server_links.specs.Moves.{serve_all, serve}
 use Rattle.server_links.proofs.Outcomes.{Meets}
 use Rattle.server_links.proofs.FaultPlaces.{parse_met}
-use Rattle.server_links.proofs.Carries.{mute_reply, carries_link, close_carries}
-use Rattle.server_links.proofs.Endings.{passed_quit, runs_unquit, unread_then}
+use Rattle.server_links.proofs.Carries.{mute_turn, carries_link, close_carries, told}
+use Rattle.server_links.proofs.Endings.{passed_early, read_then, runs_unquit, unread_then}
 use Rattle.server_links.specs.Transcript.{up_to}
 use Rattle.server_links.proofs.Moving.{every_quiet, every_does, every_run_one, every_run_all}
 use Rattle.server_links.proofs.Moving.{every_run_requests}
-use Rattle.server_links.proofs.Accounts.{gave, InFlight, Account, Running, Halted, Part}
+use Rattle.server_links.proofs.Accounts.{gave, InFlight, Account, Running, Halted, Stopping, Part}
 use Rattle.server_links.proofs.Accounts.{account_part, running_part, halted_part, ran_grown, Keeps}
-use Rattle.server_links.proofs.Accounts.{keeps_then, keeps_stays, keeps_refuses, keeps_quiet}
+use Rattle.server_links.proofs.Accounts.{keeps_from, keeps_then, keeps_stays, keeps_refuses}
+use Rattle.server_links.proofs.Accounts.{keeps_quiet}
 
 pub same_id : (c : ℕ) → (c == c) ≡ true
 same_id c = eq-eqb c c refl
@@ -89,7 +88,7 @@ module _ (heard said : List ℕ) (words : List (List ℕ)) (todo : List (List (L
         bytes = flight_past heard said read s (running s.past c words s.now).past
             (ap (λ (t : Turn). gave s.limits c t.past) (sym is)
             ∙ gave_run s.limits c s.now words s.past) r.bytes;
-        on = reads_run s.limits s.past c c at words ∙ r.on;
+        on = read_then s.limits c s.past words at on r.on;
         runs = record {
           passed = [];
           all = ap (λ b. (cond b (runs_of c s.past ++ words ∷ []) (runs_of c s.past) ++ []) ++ todo)
@@ -109,7 +108,7 @@ module _ (heard said : List ℕ) (words : List (List ℕ)) (todo : List (List (L
     runs = record {
       passed = r.runs.passed ++ words ∷ [];
       all = passed_one (runs_of c s.past) r.runs.passed todo (requests_of heard) words r.runs.all;
-      none = λ h. absurd (both_ways _ h (passed_quit s.limits c s.past r.on off));
+      none = λ h. absurd (both_ways _ h (passed_early s.limits c s.past r.on off));
     };
   }
 
@@ -129,8 +128,8 @@ module _ (heard said : List ℕ) where
   run_turn_keeps words todo s =
       let t = book_step s.limits s.past (call.Run s.link.id words s.now) in
       keeps_quiet (Running (words ∷ todo) heard said) (Running todo heard said) (Part said) s
-      (with_past s t.past) (reply_lines s.link.name words t.reply) None
-      (mute_reply s.link.name s.link.name words t.reply)
+      (with_past s t.past) (told s words t) None
+      (mute_turn s.link.name s.limits s.names s.link.name words t)
       (λ read r. let d = run_done heard said words todo read s r in (
         running_part (words ∷ todo) heard said read s r,
         (λ e. d),
@@ -186,7 +185,6 @@ module _ (heard said : List ℕ) where
       (λ read r.
       let h : Halted p.fault heard said read (with_link t (with_reader t.link p.stream)) = record {
         bytes = grind arith;
-        on = r.on;
         runs = r.runs;
         reading = reading;
       } in
@@ -195,44 +193,68 @@ module _ (heard said : List ℕ) where
   -- ---- what stops the reading
 
   close_keeps : (fault : Option StreamFault) (s : Session)
-      → Keeps (Halted fault heard said) (Account heard said) (Part said) s (close s)
+      → Keeps (Stopping fault heard said) (Account heard said) (Part said) s (close s)
   unfolding close turn
   close_keeps fault s =
       let t = book_step s.limits s.past (call.Close s.link.id) in
       let k = close_carries s in
-      keeps_quiet (Halted fault heard said) (Account heard said) (Part said) s (with_past s t.past)
-      (reply_lines s.link.name [] t.reply) None
-      (mute_reply s.link.name s.link.name [] t.reply)
+      keeps_quiet (Stopping fault heard said) (Account heard said) (Part said) s
+      (with_past s t.past) (told s [] t) None
+      (mute_turn s.link.name s.limits s.names s.link.name [] t)
       (λ read h.
       let a : Account heard said read (with_past s t.past) = record {
-        bytes = flight_past heard said read s t.past (gave_close s.limits s.link.id s.past) h.bytes;
+        bytes = flight_past heard said read s t.past (gave_close s.limits s.link.id s.past)
+            h.halted.bytes;
         runs = ran_grown [] heard s.limits s.link.id k.entries s.past t.past k.grows
             (sym (step_runs s.limits s.link.id s.past (call.Close s.link.id))
-            ∙ append-nil (runs_of s.link.id s.past)) h.runs;
+            ∙ append-nil (runs_of s.link.id s.past)) h.halted.runs;
         reading = λ on. absurd (both_ways _ (unread_then s.limits s.link.id s.past h.on) on);
       } in
-      (halted_part fault heard said read s h, (λ e. a), account_part heard said read _ a))
+      (halted_part fault heard said read s h.halted, (λ e. a), account_part heard said read _ a))
+
+  stop_open_keeps : (fault : Option StreamFault) (place : Option FaultPlace)
+      → (place ≡ None → fault ≡ None) → (eof : Bool) (s : Session)
+      → Keeps (Stopping fault heard said) (Account heard said) (Part said) s
+      (stop_open place eof s)
+  stop_open_keeps fault (Some place) met eof s =
+      keeps_then (Stopping fault heard said) (Stopping fault heard said) (Account heard said)
+      (Part said) s _ close (every_does s s _
+      (carries_link s s.link _ refl refl (λ name n. refl) refl (λ h. h)))
+      (keeps_quiet (Stopping fault heard said) (Stopping fault heard said) (Part said) s s _ None
+      refl (λ read h. (
+        halted_part fault heard said read s h.halted,
+        (λ e. h),
+        halted_part fault heard said read s h.halted,
+      )))
+      (close_keeps fault)
+  stop_open_keeps fault None met true s = close_keeps fault s
+  stop_open_keeps fault None met false s =
+      keeps_stays (Stopping fault heard said) (Account heard said) (Part said) s s
+      (λ read h. let a : Account heard said read s = record {
+        bytes = h.halted.bytes;
+        runs = h.halted.runs;
+        reading = λ on. h.halted.reading (met refl);
+      } in
+      (a, account_part heard said read s a))
 
   stop_keeps : (fault : Option StreamFault) (place : Option FaultPlace)
       → (place ≡ None → fault ≡ None) → (eof : Bool) (s : Session)
       → Keeps (Halted fault heard said) (Account heard said) (Part said) s (stop place eof s)
-  stop_keeps fault (Some place) met eof s =
-      keeps_then (Halted fault heard said) (Halted fault heard said) (Account heard said)
-      (Part said) s _ close (every_does s s _
-      (carries_link s s.link _ refl refl (λ name n. refl) refl (λ h. h)))
-      (keeps_quiet (Halted fault heard said) (Halted fault heard said) (Part said) s s _ None refl
-      (λ read h. (
-        halted_part fault heard said read s h,
-        (λ e. h),
-        halted_part fault heard said read s h,
-      )))
-      (close_keeps fault)
-  stop_keeps fault None met true s = close_keeps fault s
-  stop_keeps fault None met false s =
-      keeps_stays (Halted fault heard said) (Account heard said) (Part said) s s
-      (λ read h. let a : Account heard said read s =
-      record { bytes = h.bytes; runs = h.runs; reading = λ on. h.reading (met refl) } in
-      (a, account_part heard said read s a))
+  stop_keeps fault place met eof s =
+      let reads = reads_on s.limits s.past s.link.id in
+      elim reads as (λ b. reads ≡ b → Keeps (Halted fault heard said) (Account heard said)
+      (Part said) s (cond b (stop_open place eof s) (stays s))) [
+        | true ↦ λ on. keeps_from (Halted fault heard said) (Stopping fault heard said)
+            (Account heard said) (Part said) s (stop_open place eof s)
+            (λ read h. record { halted = h; on = on }) (stop_open_keeps fault place met eof s)
+        | false ↦ λ off. keeps_stays (Halted fault heard said) (Account heard said) (Part said) s s
+            (λ read h. let a : Account heard said read s = record {
+              bytes = h.bytes;
+              runs = h.runs;
+              reading = λ on. absurd (both_ways _ off on);
+            } in
+            (a, account_part heard said read s a))
+      ] refl
 
   run_fed_keeps : (eof : Bool) (s : Session) → ((parse s.link.reader).fault ≡ None
       → GoesOn parse heard (parse s.link.reader).stream)
@@ -264,7 +286,7 @@ module _ (heard said piece : List ℕ) (up : Direction) (eof : Bool) (s : Sessio
   unfolding fed_session
   fed_running read a = record {
     bytes = fed_flight read a.bytes;
-    on = on;
+    on = λ off. absurd (both_ways _ off on);
     runs = record {
       passed = a.runs.passed;
       all = ap (λ x. x ++ (parse (fed s.link.reader piece)).items)

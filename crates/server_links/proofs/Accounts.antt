@@ -1,6 +1,6 @@
 -- The account of a link: what was put on it and what was taken for it are heard or read, in flight
--- or lost, and what its server's end heard ran, or stands behind a QUIT. Each move keeps it, and
--- wherever memory runs out a part of it stands.
+-- or lost, and what its server's end heard ran, or stands behind a QUIT or a drop. Each move keeps
+-- it, and wherever memory runs out a part of it stands.
 use Rattle.std.proofs.Common.{◌≡◌, ℕ, List, [], ◌∷◌, ◌++◌, true, false, None, Option, take, sym}
 use Rattle.std.proofs.Common.{ap}
 use Rattle.std.proofs.Common.{◌∙◌, append_assoc, append-nil, arith}
@@ -10,6 +10,7 @@ use Rattle.resp_stream.specs.Parse.{parse, requests_of}
 use Rattle.resp_stream.proofs.Onward.{GoesOn}
 use Rattle.serial_model.specs.declared.history.Limits.{Limits}
 use Rattle.serial_model.specs.declared.history.Entry.{Entry}
+use Rattle.serial_model.specs.EntryEffects.{was_dropped}
 use Rattle.serial_model.specs.History.{reads_on, stream, taken, runs_of}
 use Rattle.script_text.specs.declared.line.Line.{Line}
 use Rattle.server_links.specs.declared.fault.WorldFault.TheVariants.{NothingThere}
@@ -35,7 +36,8 @@ pub record InFlight (heard said read : List ℕ) (s : Session) : Type 0 where
   pub all_taken : (read ++ s.link.down.bytes) ++ down_lost ≡ gave s.limits s.link.id s.past
   pub none_down : is_open s.link.down.eof ≡ true → down_lost ≡ []
 
--- what was heard ran, or was passed over since it stands behind a QUIT, or is still to run
+-- what was heard ran, or was passed over since it stands behind a QUIT or a drop, or is still to
+-- run
 pub record Ran (todo : List (List (List ℕ))) (heard : List ℕ) (l : Limits) (c : ℕ)
     (past : List Entry) : Type 0 where
   pub passed : List (List (List ℕ))
@@ -65,20 +67,29 @@ pub record Account (heard said read : List ℕ) (s : Session) : Type 0 where
   pub runs : Ran [] heard s.limits s.link.id s.past
   pub reading : reads_on s.limits s.past s.link.id ≡ true → GoesOn parse heard s.link.reader
 
+-- one that is read no more was dropped
+abbrev pub IsOpen : Session → Type 0
+IsOpen s = reads_on s.limits s.past s.link.id ≡ false → was_dropped s.limits s.link.id s.past ≡ true
+
 -- these requests are still to run
 pub record Running (todo : List (List (List ℕ))) (heard said read : List ℕ) (s : Session) : Type 0
   where
     pub bytes : InFlight heard said read s
-    pub on : reads_on s.limits s.past s.link.id ≡ true
+    pub on : IsOpen s
     pub runs : Ran todo heard s.limits s.link.id s.past
 
 -- all ran, up to this fault
 pub record Halted (fault : Option StreamFault) (heard said read : List ℕ) (s : Session) : Type 0
   where
     pub bytes : InFlight heard said read s
-    pub on : reads_on s.limits s.past s.link.id ≡ true
     pub runs : Ran [] heard s.limits s.link.id s.past
     pub reading : fault ≡ None → GoesOn parse heard s.link.reader
+
+-- and the connection is still read
+pub record Stopping (fault : Option StreamFault) (heard said read : List ℕ) (s : Session) : Type 0
+  where
+    pub halted : Halted fault heard said read s
+    pub on : reads_on s.limits s.past s.link.id ≡ true
 
 unfoldable pub Part : List ℕ → List ℕ → Session → Type 0
 Part said read s = PartServes s.limits said read s.past s.link
@@ -111,6 +122,12 @@ Keeps P Q W s m =
     (read : List ℕ) → P read s
     → Meets (λ t l. Q (read ++ read_on s.link.name l) t)
     (λ t l. W (read ++ read_on s.link.name l) t) m
+
+-- what is enough to keep it
+pub keeps_from : (P R Q W : List ℕ → Session → Type 0) (s : Session) (m : Outcome Session)
+    → ((read : List ℕ) → P read s → R read s) → Keeps R Q W s m → Keeps P Q W s m
+unfolding Keeps
+keeps_from P R Q W s m f k read p = k read (f read p)
 
 pub keeps_then : (P R Q W : List ℕ → Session → Type 0) (s : Session) (m : Outcome Session)
     (next : Session → Outcome Session)

@@ -7,10 +7,12 @@ use Rattle.std.specs.Str.{bytes_eq}
 use Rattle.std.proofs.lemmas.Grind.{flat_map-append}
 use Rattle.serial_model.specs.declared.history.Limits.{Limits}
 use Rattle.serial_model.specs.declared.history.Entry.{Entry}
+use Rattle.serial_model.specs.declared.history.Entry.TheVariants as entry
 use Rattle.serial_model.specs.declared.history.BookCall.{BookCall}
 use Rattle.serial_model.specs.declared.history.BookCall.TheVariants as call
 use Rattle.serial_model.specs.declared.history.BookReply.{BookReply}
-use Rattle.serial_model.specs.History.{admitted, IsLegal}
+use Rattle.serial_model.specs.EntryEffects.{drops_at, dropped_by}
+use Rattle.serial_model.specs.History.{admitted, latest, state, IsLegal}
 use Rattle.serial_model.specs.Steps.{Turn, book_step}
 use Rattle.serial_model.specs.Laws.{Extends}
 use Rattle.serial_model.proofs.Others.{extends_none, extends_more, others_extend}
@@ -21,10 +23,12 @@ use Rattle.script_text.specs.declared.line.Line.TheVariants as line
 use Rattle.server_links.specs.declared.link.Link.{Link}
 use Rattle.server_links.specs.Clock.{AreTimedBy, moments}
 use Rattle.server_links.specs.Directions.{spent}
-use Rattle.server_links.specs.EntryLines.{entry_lines, is_entry_line, name_of, reply_lines}
+use Rattle.server_links.specs.EntryLines.{dropped_lines, entry_lines, is_entry_line, name_of}
+use Rattle.server_links.specs.EntryLines.{reply_lines}
 use Rattle.server_links.specs.OneHistory.{read_by, read_on}
 use Rattle.server_links.specs.Session.{Session, with_past, with_link}
 use Rattle.server_links.proofs.Clock.{by_both, latest_is}
+use Rattle.server_links.proofs.Drops.{dropped_unread, drops_are_entries}
 use Rattle.server_links.proofs.Endings.{took_length}
 
 pub read_more : (name : List ℕ) (xs ys : List Line)
@@ -39,6 +43,7 @@ entries_more (x ∷ xs) ys = grind (arith, filter, entries_more xs ys)
 pub record Carries (s t : Session) (lines : List Line) : Type 0 where
   pub limits : t.limits ≡ s.limits
   pub now : t.now ≡ s.now
+  pub names : t.names ≡ s.names
   pub id : t.link.id ≡ s.link.id
   pub named : t.link.name ≡ s.link.name
   pub legal : IsLegal s.limits s.past → IsLegal s.limits t.past
@@ -49,8 +54,8 @@ pub record Carries (s t : Session) (lines : List Line) : Type 0 where
   pub others : (c : ℕ) → (s.link.id == c) ≡ false → Extends s.limits c s.past t.past
   pub mute : (name : List ℕ) → bytes_eq s.link.name name ≡ false → read_on name lines ≡ []
   pub stays_spent : s.link.down ≡ spent → t.link.down ≡ spent
-  pub printed : (names : List (List ℕ)) → name_of names s.link.id ≡ s.link.name
-      → entry_lines s.limits names t.past ≡ entry_lines s.limits names s.past
+  pub printed : name_of s.names s.link.id ≡ s.link.name
+      → entry_lines s.limits s.names t.past ≡ entry_lines s.limits s.names s.past
       ++ filter is_entry_line lines
 
 pub carries_more : (s t u : Session) (a b : List Line) → Carries s t a → Carries t u b
@@ -58,6 +63,7 @@ pub carries_more : (s t u : Session) (a b : List Line) → Carries s t a → Car
 carries_more s t u a b f g = record {
   limits = g.limits ∙ f.limits;
   now = g.now ∙ f.now;
+  names = g.names ∙ f.names;
   id = g.id ∙ f.id;
   named = g.named ∙ f.named;
   legal = λ h. subst (λ l. IsLegal l u.past) f.limits
@@ -77,14 +83,17 @@ carries_more s t u a b f g = record {
   mute = λ name n. read_more name a b ∙ ap (λ r. r ++ read_on name b) (f.mute name n)
       ∙ g.mute name (ap (λ x. bytes_eq x name) f.named ∙ n);
   stays_spent = λ h. g.stays_spent (f.stays_spent h);
-  printed = λ names n.
-      subst (λ l. entry_lines l names u.past ≡ entry_lines l names t.past
+  printed = λ n.
+      subst (λ ns. entry_lines s.limits ns u.past ≡ entry_lines s.limits ns t.past
+      ++ filter is_entry_line b) f.names
+      (subst (λ l. entry_lines l t.names u.past ≡ entry_lines l t.names t.past
       ++ filter is_entry_line b) f.limits
-      (g.printed names (ap (name_of names) f.id ∙ n ∙ sym f.named))
-      ∙ ap (λ l. l ++ filter is_entry_line b) (f.printed names n)
-      ∙ append_assoc (entry_lines s.limits names s.past) (filter is_entry_line a)
+      (g.printed (ap (λ ns. name_of ns t.link.id) f.names ∙ ap (name_of s.names) f.id ∙ n
+      ∙ sym f.named)))
+      ∙ ap (λ l. l ++ filter is_entry_line b) (f.printed n)
+      ∙ append_assoc (entry_lines s.limits s.names s.past) (filter is_entry_line a)
       (filter is_entry_line b)
-      ∙ ap (λ l. entry_lines s.limits names s.past ++ l) (sym (entries_more a b));
+      ∙ ap (λ l. entry_lines s.limits s.names s.past ++ l) (sym (entries_more a b));
 }
 
 same_entries : (entries ls : List Line) → filter is_entry_line ls ≡ []
@@ -101,6 +110,7 @@ pub carries_link : (s : Session) (new : Link) (lines : List Line) → new.id ≡
 carries_link s new lines id named mute none still = record {
   limits = refl;
   now = refl;
+  names = refl;
   id = id;
   named = named;
   legal = λ h. h;
@@ -111,13 +121,18 @@ carries_link s new lines id named mute none still = record {
   others = λ c n. extends_none s.limits c s.past;
   mute = mute;
   stays_spent = still;
-  printed = λ names n. same_entries (entry_lines s.limits names s.past) lines none;
+  printed = λ n. same_entries (entry_lines s.limits s.names s.past) lines none;
 }
 
 pub carries_none : (s : Session) → Carries s s []
 carries_none s = carries_link s s.link [] refl refl (λ name n. refl) refl (λ h. h)
 
 -- ---- turns of the connection
+
+-- what a turn of a connection's link prints, of this name, where these are the names of all links
+abbrev pub turn_lines : Limits → List (List ℕ) → List ℕ → List (List ℕ) → Turn → List Line
+turn_lines l names name words t =
+    reply_lines name words t.reply ++ dropped_lines l names t.reply t.past
 
 -- what a turn of the connection adds, and prints
 record Adds (l : Limits) (id now : ℕ) (words : List (List ℕ)) (past : List Entry)
@@ -128,23 +143,26 @@ record Adds (l : Limits) (id now : ℕ) (words : List (List ℕ)) (past : List E
   timed : IsLegal l past → AreTimedBy now (moments entries) (moments past)
   printed : (names : List (List ℕ)) → entry_lines l names t.past
       ≡ entry_lines l names past
-      ++ filter is_entry_line (reply_lines (name_of names id) words t.reply)
+      ++ filter is_entry_line (turn_lines l names (name_of names id) words t)
 
 adds_nothing : (l : Limits) (id now : ℕ) (words : List (List ℕ)) (past : List Entry)
     (reply : BookReply)
-    → ((names : List (List ℕ)) → filter is_entry_line (reply_lines (name_of names id) words reply)
-    ≡ []) → Adds l id now words past (record { reply = reply; past = past })
+    → ((names : List (List ℕ)) → turn_lines l names (name_of names id) words
+    (record { reply = reply; past = past }) ≡ [])
+    → Adds l id now words past (record { reply = reply; past = past })
 adds_nothing l id now words past reply none = record {
   count = refl;
   entries = [];
   grows = refl;
   timed = λ legal. tt;
   printed = λ names. same_entries (entry_lines l names past)
-      (reply_lines (name_of names id) words reply) (none names);
+      (turn_lines l names (name_of names id) words (record { reply = reply; past = past }))
+      (ap (filter is_entry_line) (none names));
 }
 
 run_adds : (l : Limits) (past : List Entry) (id now : ℕ) (words : List (List ℕ))
     → Adds l id now words past (book_step l past (call.Run id words now))
+unfolding dropped_by
 run_adds l past id now words = by_run l past (Adds l id now words past) id words now
     (adds_nothing l id now words past _ (λ names. refl))
     (λ on. record {
@@ -152,7 +170,11 @@ run_adds l past id now words = by_run l past (Adds l id now words past) id words
       entries = _ ∷ [];
       grows = refl;
       timed = λ legal. (ap (max now) (sym (latest_is l past legal)), tt);
-      printed = λ names. refl;
+      printed = λ names.
+          let n = length past + 1 in
+          ap (λ x. entry_lines l names past ++ line.Run n (name_of names id) words ∷ x)
+          (sym (drops_are_entries n names
+          (drops_at l (entry.Run id words (max now (latest past))) (state l past))));
     })
 
 close_adds : (l : Limits) (past : List Entry) (id now : ℕ)
@@ -183,21 +205,53 @@ take_adds l past id now most = by_take l past (Adds l id now [] past) id most
           (took_length l past id most some);
     })
 
-pub mute_reply : (name link : List ℕ) (words : List (List ℕ)) (reply : BookReply)
+mute_reply : (name link : List ℕ) (words : List (List ℕ)) (reply : BookReply)
     → read_on name (reply_lines link words reply) ≡ []
 mute_reply name link words reply = grind arith
+
+-- none of it is read
+pub mute_turn : (name : List ℕ) (l : Limits) (names : List (List ℕ)) (link : List ℕ)
+    (words : List (List ℕ)) (t : Turn) → read_on name (turn_lines l names link words t) ≡ []
+mute_turn name l names link words t =
+    read_more name (reply_lines link words t.reply) (dropped_lines l names t.reply t.past)
+    ∙ ap (λ x. x ++ read_on name (dropped_lines l names t.reply t.past))
+    (mute_reply name link words t.reply)
+    ∙ dropped_unread name l names t.reply t.past
+
+-- of a session's link
+abbrev pub told : Session → List (List ℕ) → Turn → List Line
+told s words t = turn_lines s.limits s.names s.link.name words t
 
 carries_turn : (s : Session) (c : BookCall) (words : List (List ℕ))
     → Adds s.limits s.link.id s.now words s.past (book_step s.limits s.past c)
     → ((d : ℕ) → (s.link.id == d) ≡ false
     → Extends s.limits d s.past (book_step s.limits s.past c).past)
-    → let t : Turn = book_step s.limits s.past c in
-    Carries s (with_past s t.past) (reply_lines s.link.name words t.reply)
-carries_turn s c words a others = grind (arith, step_legal, mute_reply, filter)
+    → let t : Turn = book_step s.limits s.past c in Carries s (with_past s t.past) (told s words t)
+carries_turn s c words a others =
+    let t = book_step s.limits s.past c in
+    record {
+      limits = refl;
+      now = refl;
+      names = refl;
+      id = refl;
+      named = refl;
+      legal = step_legal s.limits s.past c;
+      count = a.count;
+      entries = a.entries;
+      grows = a.grows;
+      timed = a.timed;
+      others = others;
+      mute = λ name n. mute_turn name s.limits s.names s.link.name words t;
+      stays_spent = λ h. h;
+      printed = λ n.
+          subst (λ x. entry_lines s.limits s.names t.past
+          ≡ entry_lines s.limits s.names s.past
+          ++ filter is_entry_line (turn_lines s.limits s.names x words t)) n (a.printed s.names);
+    }
 
 pub run_carries : (s : Session) (words : List (List ℕ)) →
     let t : Turn = book_step s.limits s.past (call.Run s.link.id words s.now) in
-    Carries s (with_past s t.past) (reply_lines s.link.name words t.reply)
+    Carries s (with_past s t.past) (told s words t)
 run_carries s words =
     carries_turn s (call.Run s.link.id words s.now) words
     (run_adds s.limits s.past s.link.id s.now words)
@@ -205,14 +259,14 @@ run_carries s words =
 
 pub take_carries : (s : Session) (most : ℕ) →
     let t : Turn = book_step s.limits s.past (call.Take s.link.id most) in
-    Carries s (with_past s t.past) (reply_lines s.link.name [] t.reply)
+    Carries s (with_past s t.past) (told s [] t)
 take_carries s most =
     carries_turn s (call.Take s.link.id most) [] (take_adds s.limits s.past s.link.id s.now most)
     (λ d n. others_extend s.limits d s.past (call.Take s.link.id most) n)
 
 pub close_carries : (s : Session) →
     let t : Turn = book_step s.limits s.past (call.Close s.link.id) in
-    Carries s (with_past s t.past) (reply_lines s.link.name [] t.reply)
+    Carries s (with_past s t.past) (told s [] t)
 close_carries s =
     carries_turn s (call.Close s.link.id) [] (close_adds s.limits s.past s.link.id s.now)
     (λ d n. others_extend s.limits d s.past (call.Close s.link.id) n)

@@ -37,10 +37,10 @@ by_both clock xs ys past h g =
 pub latest_is : (l : Limits) (past : List Entry) → IsLegal l past
     → greatest (moments past) ≡ latest past
 latest_is l [] legal = refl
-latest_is l (entry.Admit id ∷ past) legal = latest_is l past legal.1
+latest_is l (entry.Admit id ∷ past) legal = latest_is l past legal.2
 latest_is l (entry.Run id words m ∷ past) legal =
     let e = latest_is l past legal.2 in omega (arith, e, legal.1)
 latest_is l (entry.Tick m ∷ past) legal =
-    let e = latest_is l past legal.2 in omega (arith, e, legal.1)
+    let e = latest_is l past legal.3 in omega (arith, e, legal.2)
 latest_is l (entry.Take id most ∷ past) legal = latest_is l past legal.2
 latest_is l (entry.Close id ∷ past) legal = latest_is l past legal.1

@@ -22,7 +22,8 @@ use Rattle.server_links.specs.Directions.{eof_read, finished, is_open, is_queued
 use Rattle.server_links.specs.Directions.{without_bytes}
 use Rattle.server_links.specs.LinkEvent.{LinkEvent, Over}
 use Rattle.server_links.specs.Moves.{turned, turn, next_read, run_one, run_all, close, stop}
-use Rattle.server_links.specs.Moves.{rest_read, run_requests, run_fed, stopped_at, feed, serve_all}
+use Rattle.server_links.specs.Moves.{stop_open, rest_read, run_requests, run_fed, stopped_at, feed}
+use Rattle.server_links.specs.Moves.{serve_all}
 use Rattle.server_links.specs.Moves.{take_down, all_bytes, send_all, receive_all, flow, read_bytes}
 use Rattle.server_links.specs.Moves.{read_eof, move_of, end_down}
 use Rattle.server_links.specs.OneHistory.{FlowDelivers}
@@ -61,12 +62,23 @@ heard_run_all (words ∷ requests) s h =
     (λ t. turn (call.Run t.link.id words t.now) words t) (λ e. h) (λ t k e. k))
     (heard_run_all requests)
 
+heard_stop_open : (place : Option FaultPlace) (eof : Bool) (s : Session) → Heard s
+    → Ends Heard (stop_open place eof s)
+unfolding close turn Ends Heard
+heard_stop_open (Some place) eof s h = ends_then Heard Heard _ close (λ e. h) (λ t k e. k)
+heard_stop_open None true s h = λ e. h
+heard_stop_open None false s h = λ e. h
+
 heard_stop : (place : Option FaultPlace) (eof : Bool) (s : Session) → Heard s
     → Ends Heard (stop place eof s)
-unfolding close turn Ends Heard
-heard_stop (Some place) eof s h = ends_then Heard Heard _ close (λ e. h) (λ t k e. k)
-heard_stop None true s h = λ e. h
-heard_stop None false s h = λ e. h
+unfolding Ends
+heard_stop place eof s h =
+    elim (reads_on s.limits s.past s.link.id) as (λ b.
+    (cond b (stop_open place eof s) (stays s)).fault ≡ None
+    → Heard (cond b (stop_open place eof s) (stays s)).state) [
+      | true ↦ heard_stop_open place eof s h
+      | false ↦ λ e. h
+    ]
 
 heard_run_fed : (eof : Bool) (s : Session) → Heard s → Ends Heard (run_fed eof s)
 unfolding run_fed run_requests Ends Heard
@@ -258,17 +270,14 @@ module _ (w : LinksState) (at : ℕ) (event : LinkEvent) (name : List ℕ)
       let c = carried (sym fault_is ∙ none) in
       let there : at_place (slice_set w.links at m.state.link) at ≡ m.state.link =
       get_or-set_same w.links at m.state.link (fresh_link 0 []) (placed name w at found).0 in
+      let named = names_set w.links at m.state.link c.named ∙ sym c.names in
+      let then : (l : Limits) (n : ℕ) (ns : List (List ℕ)) (x : Link) → Session =
+      λ l n ns x. record { limits = l; now = n; past = m.state.past; names = ns; link = x } in
       ap (session_at at) state_is
-      ∙ ap (λ (x : Link). record { limits = w.limits; now = w.now; past = m.state.past; link = x })
-      there
-      ∙ ap (λ l. record { limits = l; now = w.now; past = m.state.past; link = m.state.link })
-      (sym c.limits)
-      ∙ ap (λ n. record {
-        limits = m.state.limits;
-        now = n;
-        past = m.state.past;
-        link = m.state.link;
-      }) (sym c.now)
+      ∙ ap (λ x. then w.limits w.now (names (slice_set w.links at m.state.link)) x) there
+      ∙ ap (λ ns. then w.limits w.now ns m.state.link) named
+      ∙ ap (λ l. then l w.now m.state.names m.state.link) (sym c.limits)
+      ∙ ap (λ n. then m.state.limits n m.state.names m.state.link) (sym c.now)
 
   -- and is found as before
   pub still_found : (step w event).fault ≡ None → place_of name (step w event).state ≡ Some at

@@ -9,8 +9,7 @@ use Rattle.std.proofs.lemmas.List.{get_or_past, set-get_or}
 use Rattle.serial_model.specs.declared.history.Entry.{Entry}
 use Rattle.serial_model.specs.declared.history.Entry.TheVariants as entry
 use Rattle.serial_model.specs.History.{admitted, is_admitted, reads_on}
-use Rattle.serial_model.specs.Steps.{Turn}
-use Rattle.serial_model.proofs.Turning.{admit_step}
+use Rattle.serial_model.proofs.StepCases.{by_admit}
 use Rattle.script_text.specs.declared.line.Line.{Line}
 use Rattle.server_links.specs.declared.direction.Direction.{Direction}
 use Rattle.server_links.specs.declared.fault.WorldFault.{WorldFault}
@@ -166,9 +165,10 @@ raw_over_by name None w =
     let W : LinksState → List Line → Type 0 = λ v ls. StayOver w v in
     let id = admitted w.past + 1 in
     let made = made_over w (fresh_link id name) id in
-    subst (λ (t : Turn). Meets (MadeOver None w) W (admitting w name t))
-    (sym (admit_step w.limits w.past))
-    (meets_once (MadeOver None w) W w _ _ None (λ e. (made, refl)) (over_same w) made)
+    by_admit w.limits w.past (λ t. Meets (MadeOver None w) W (admitting w name t))
+    (meets_once (MadeOver None w) W w w [] _ (λ e. (over_same w, refl)) (over_same w)
+    (over_same w))
+    (λ on. meets_once (MadeOver None w) W w _ _ None (λ e. (made, refl)) (over_same w) made)
 
 -- and where it was made, its name was free
 pub raw_over : (name : List ℕ) (w : LinksState)

@@ -1,11 +1,11 @@
--- How far a connection has ended, entry by entry: whether it is read on, and whether it has quit.
+-- How far a connection has ended, entry by entry: whether it is read on, has quit or was dropped.
 use Rattle.std.proofs.Common.{◌≡◌, ◌≤◌, ℕ, List, [], ◌∷◌, ◌++◌, Bool, true, false, cond}
 use Rattle.std.proofs.Common.{inl, inr, refl, sym, ap, ◌∙◌, arith, subst, drop, length, max, min}
 use Rattle.std.proofs.Common.{take, length-take}
 use Rattle.std.specs.Prelude.{◌==◌, ◌&&◌, ◌||◌, ◌+◌, ◌-◌, not}
 use Rattle.std.specs.List.{list_any}
-use Rattle.std.proofs.lemmas.Bool.{both_ways, cases_Bool, eq-eqb, eqb-true, or_parts}
-use Rattle.std.proofs.lemmas.Bool.{false_from_ne_true, true_from_ne_false}
+use Rattle.std.proofs.lemmas.Bool.{both_ways, cases_Bool, eq-eqb, eqb-true, or_left, or_parts}
+use Rattle.std.proofs.lemmas.Bool.{false_from_ne_true}
 use Rattle.std.proofs.lemmas.List.{length-drop}
 use Rattle.std.proofs.lemmas.List.Folds.{list_any-append}
 use Rattle.std.proofs.lemmas.Bool.Decides.{nat_tests}
@@ -17,15 +17,17 @@ use Rattle.serial_model.specs.declared.standing.Standing.{Standing}
 use Rattle.serial_model.specs.declared.standing.Standing.TheVariants.{Live, Quit, Gone}
 use Rattle.serial_model.specs.State.{State, closed, is_live, keeps_bytes, may_take}
 use Rattle.serial_model.specs.Tracking.{has_id}
-use Rattle.serial_model.specs.Actions.{Action, ends, is_overgrown, quits}
-use Rattle.serial_model.specs.History.{gives_on, is_admitted, is_quit, latest}
+use Rattle.serial_model.specs.Actions.{Action, ends, quits}
+use Rattle.serial_model.specs.EntryEffects.{drops_one, was_dropped}
+use Rattle.serial_model.specs.History.{gives_on, has_ended, is_admitted, is_quit}
 use Rattle.serial_model.specs.History.{reads_on, run_action, runs_of, runs_on, state, stream}
 use Rattle.serial_model.specs.History.{taken, tick_action, unsent, IsLegal}
 use Rattle.serial_model.specs.Steps.{Turn, book_step}
-use Rattle.serial_model.proofs.Ends.{not_ending}
-use Rattle.serial_model.proofs.StateSteps.{run_stands_own}
-use Rattle.serial_model.proofs.StepCases.{by_run, by_take}
-use Rattle.serial_model.proofs.Standings.{gives_take, reads_close, reads_run, reads_take}
+use Rattle.serial_model.proofs.Ends.{ends_are}
+use Rattle.serial_model.proofs.StateSteps.{dropped_stands, run_stands_quit}
+use Rattle.serial_model.proofs.StepCases.{by_take}
+use Rattle.serial_model.proofs.Standings.{ended_more, gives_take, reads_close, reads_run}
+use Rattle.serial_model.proofs.Standings.{reads_take}
 use Rattle.serial_model.proofs.Streams.{some_kept, unsent_gone, unsent_kept}
 use Rattle.serial_model.proofs.Turning.{close_step}
 use Rattle.server_links.specs.OneHistory.{ended_early, has_quit, QuitIsLast}
@@ -58,16 +60,16 @@ read_quit a x e f = grind arith
 -- ---- one more entry
 
 -- whom an action ends had not ended
-was_live : (o : ℕ → Bool) (t : Action) (s : State) (c : ℕ) → has_id c (ends o t s) ≡ true
+was_live : (l : Limits) (t : Action) (s : State) (c : ℕ) → has_id c (ends l t s) ≡ true
     → is_live (s.standing c) ≡ true
-was_live o t s c h = true_from_ne_false _ (λ e. both_ways _ (not_ending o t s c e) h)
+was_live l t s c h = grind (arith, ends_are)
 
 module _ (l : Limits) (c : ℕ) where
   abbrev standing : List Entry → Standing
   standing past = (state l past).standing c
 
   abbrev action_ends : List Entry → Action → Bool
-  action_ends past t = let s = state l past in has_id c (ends (is_overgrown l t s) t s)
+  action_ends past t = has_id c (ends l t (state l past))
 
   -- what an entry leaves of a standing
   by_entry : (P : Standing → Type 0) (e : Entry) (past : List Entry) → P (standing past)
@@ -81,11 +83,11 @@ module _ (l : Limits) (c : ℕ) where
   by_entry P (Run id words moment) past same ended close =
       let s = state l past in
       let t = run_action id words moment s in
-      ended (action_ends past t) (quits t c) (was_live (is_overgrown l t s) t s c)
+      ended (action_ends past t) (quits t c) (was_live l t s c)
   by_entry P (Tick moment) past same ended close =
       let s = state l past in
       let t = tick_action moment s in
-      ended (action_ends past t) (quits t c) (was_live (is_overgrown l t s) t s c)
+      ended (action_ends past t) (quits t c) (was_live l t s c)
   by_entry P (Take id max) past same ended close = same
   by_entry P (Close id) past same ended close =
       close (id == c) ((state l past).standing id)
@@ -121,11 +123,34 @@ module _ (l : Limits) (c : ℕ) where
   keeps_before [] past h = h
   keeps_before (e ∷ es) past h = keeps_before es past (keeps_more e (es ++ past) h)
 
-  -- one that has quit stays so
+  either_more : (a b a' b' : Bool) → (a || b) ≡ true → (a ≡ true → a' ≡ true)
+      → (b ≡ true → b' ≡ true) → (a' || b') ≡ true
+  either_more a b a' b' h f g = grind arith
+
+  -- one that has quit or was dropped stays so
+  early_more : (e : Entry) (past : List Entry) → ended_early l c past ≡ true
+      → ended_early l c (e ∷ past) ≡ true
+  early_more e past h =
+      either_more (has_quit (standing past)) (was_dropped l c past)
+      (has_quit (standing (e ∷ past))) (was_dropped l c (e ∷ past)) h (quit_more e past)
+      (or_left (was_dropped l c past) (drops_one l e past c))
+
   pub early_on : (es past : List Entry) → ended_early l c past ≡ true
       → ended_early l c (es ++ past) ≡ true
   early_on [] past h = h
-  early_on (e ∷ es) past h = quit_more e (es ++ past) (early_on es past h)
+  early_on (e ∷ es) past h = early_more e (es ++ past) (early_on es past h)
+
+  -- one that was dropped has ended
+  by_drop : (a b ended : Bool) → (a || b) ≡ true → (a ≡ true → ended ≡ true)
+      → (b ≡ true → ended ≡ true) → ended ≡ true
+  by_drop a b ended h f g = grind arith
+
+  dropped_ended : (past : List Entry) → was_dropped l c past ≡ true → has_ended l c past ≡ true
+  dropped_ended [] h = absurd (let no : ⊥ = cc in no)
+  dropped_ended (e ∷ past) h =
+      by_drop (was_dropped l c past) (drops_one l e past c) (has_ended l c (e ∷ past)) h
+      (λ was. ended_more l past c e (dropped_ended past was))
+      (λ now. ap (λ x. not (is_live x)) (dropped_stands l past e c now))
 
   pub early_before : (es past : List Entry) → ended_early l c (es ++ past) ≡ false
       → ended_early l c past ≡ false
@@ -142,22 +167,49 @@ module _ (l : Limits) (c : ℕ) where
 
   -- ---- what runs
 
-  -- a connection that runs on has not quit, and one that is read on and runs no more has
+  live_here : (a e : Bool) → (a && not e) ≡ true → e ≡ false
+  live_here a e h = grind arith
+
+  -- a connection that runs on has not quit, and was not dropped
   pub runs_unquit : (past : List Entry) → runs_on l past c ≡ true → ended_early l c past ≡ false
-  runs_unquit past h = live_unquit (is_admitted past c) (standing past) h
+  runs_unquit past h =
+      neither (has_quit (standing past)) (was_dropped l c past)
+      (live_unquit (is_admitted past c) (standing past) h)
+      (false_from_ne_true _ (λ was. both_ways _
+      (live_here (is_admitted past c) (has_ended l c past) h) (dropped_ended past was)))
+    where
+      neither : (a b : Bool) → a ≡ false → b ≡ false → (a || b) ≡ false
+      neither a b e f = grind arith
 
-  pub passed_quit : (past : List Entry) → reads_on l past c ≡ true → runs_on l past c ≡ false
+  -- one that runs no more has quit if it is read on; if it is not, it was perhaps dropped
+  pub passed_early : (past : List Entry)
+      → (reads_on l past c ≡ false → was_dropped l c past ≡ true) → runs_on l past c ≡ false
       → ended_early l c past ≡ true
-  passed_quit past h g = read_quit (is_admitted past c) (standing past) h g
+  passed_early past unread off =
+      elim (cases_Bool (reads_on l past c)) [
+        | inl on ↦ or_left _ (was_dropped l c past)
+            (read_quit (is_admitted past c) (standing past) on off)
+        | inr none ↦ right (has_quit (standing past)) (was_dropped l c past) (unread none)
+      ]
+    where
+      right : (a b : Bool) → b ≡ true → (a || b) ≡ true
+      right a b h = grind arith
 
-  -- its own Run leaves a connection read on
-  pub read_then : (past : List Entry) (words : List (List ℕ)) (now : ℕ) → reads_on l past c ≡ true
-      → reads_on l (book_step l past (call.Run c words now)).past c ≡ true
-  read_then past words now h =
-      by_run l past (λ (t : Turn). reads_on l t.past c ≡ true) c words now h
-      (λ on. reads_run l past c c (max now (latest past)) words ∙ h)
+  -- its own Run leaves a connection read on, or drops it
+  pub read_then : (past : List Entry) (words : List (List ℕ)) (moment : ℕ)
+      → runs_on l past c ≡ true
+      → (reads_on l past c ≡ false → was_dropped l c past ≡ true)
+      → reads_on l (Run c words moment ∷ past) c ≡ false
+      → was_dropped l c (Run c words moment ∷ past) ≡ true
+  read_then past words moment on unread off =
+      dropped (reads_on l past c) (drops_one l (Run c words moment) past c) (was_dropped l c past)
+      (sym (reads_run l past c c moment words) ∙ off) unread
+    where
+      dropped : (a d was : Bool) → (a && not d) ≡ false → (a ≡ false → was ≡ true)
+          → (was || d) ≡ true
+      dropped a d was h f = grind arith
 
-  -- its Close does not
+  -- its Close leaves it read no more
   pub unread_then : (past : List Entry) → reads_on l past c ≡ true
       → reads_on l (book_step l past (call.Close c)).past c ≡ false
   unread_then past on =
@@ -209,16 +261,15 @@ module _ (l : Limits) (c : ℕ) where
     quits_here : (id == c) ≡ true → is_quit words ≡ true
         → ended_early l c (Run id words moment ∷ past) ≡ true
     quits_here same is =
-        subst (λ k. has_quit ((state l (Run id words moment ∷ past)).standing k) ≡ true)
-        (eqb-true id c same)
-        (ap has_quit (run_stands_own l past id moment words on)
-        ∙ ap (λ b. has_quit (cond b Quit Live)) is)
+        or_left _ (was_dropped l c (Run id words moment ∷ past))
+        (subst (λ k. has_quit ((state l (Run id words moment ∷ past)).standing k) ≡ true)
+        (eqb-true id c same) (ap has_quit (run_stands_quit l past id moment words on is)))
 
   -- one that ran a QUIT has quit
   ran_quit : (past : List Entry) → IsLegal l past → list_any is_quit (runs_of c past) ≡ true
       → ended_early l c past ≡ true
   ran_quit [] legal h = absurd (let no : ⊥ = cc in no)
-  ran_quit (Admit id ∷ past) legal h = quit_more l c (Admit id) past (ran_quit past legal.1 h)
+  ran_quit (Admit id ∷ past) legal h = early_more l c (Admit id) past (ran_quit past legal.2 h)
   ran_quit (Run id words moment ∷ past) legal h =
       let before = ran_quit past legal.2 in
       elim (cases_Bool (id == c)) [
@@ -226,16 +277,18 @@ module _ (l : Limits) (c : ℕ) where
             (quit_or (runs_of c past) words
             (sym (ap (λ b. list_any is_quit (runs_then b past words)) same) ∙ h)
             (none_yet id moment words past legal.0 before same))
-        | inr other ↦ quit_more l c (Run id words moment) past
+        | inr other ↦ early_more l c (Run id words moment) past
             (before (sym (ap (λ b. list_any is_quit (runs_then b past words)) other) ∙ h))
       ]
-  ran_quit (Tick moment ∷ past) legal h = quit_more l c (Tick moment) past (ran_quit past legal.2 h)
-  ran_quit (Take id max ∷ past) legal h = quit_more l c (Take id max) past (ran_quit past legal.2 h)
-  ran_quit (Close id ∷ past) legal h = quit_more l c (Close id) past (ran_quit past legal.1 h)
+  ran_quit (Tick moment ∷ past) legal h =
+      early_more l c (Tick moment) past (ran_quit past legal.3 h)
+  ran_quit (Take id max ∷ past) legal h =
+      early_more l c (Take id max) past (ran_quit past legal.2 h)
+  ran_quit (Close id ∷ past) legal h = early_more l c (Close id) past (ran_quit past legal.1 h)
 
   pub quit_is_last : (past : List Entry) → IsLegal l past → QuitIsLast (runs_of c past)
   quit_is_last [] legal = tt
-  quit_is_last (Admit id ∷ past) legal = quit_is_last past legal.1
+  quit_is_last (Admit id ∷ past) legal = quit_is_last past legal.2
   quit_is_last (Run id words moment ∷ past) legal =
       let before = quit_is_last past legal.2 in
       elim (cases_Bool (id == c)) [
@@ -244,7 +297,7 @@ module _ (l : Limits) (c : ℕ) where
             (none_yet id moment words past legal.0 (ran_quit past legal.2) same))
         | inr other ↦ subst (λ b. QuitIsLast (runs_then b past words)) (sym other) before
       ]
-  quit_is_last (Tick moment ∷ past) legal = quit_is_last past legal.2
+  quit_is_last (Tick moment ∷ past) legal = quit_is_last past legal.3
   quit_is_last (Take id max ∷ past) legal = quit_is_last past legal.2
   quit_is_last (Close id ∷ past) legal = quit_is_last past legal.1
 

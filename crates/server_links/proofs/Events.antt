@@ -11,8 +11,7 @@ use Rattle.serial_model.specs.declared.history.Limits.{Limits}
 use Rattle.serial_model.specs.declared.history.Entry.{Entry}
 use Rattle.serial_model.specs.declared.history.Entry.TheVariants as entry
 use Rattle.serial_model.specs.History.{admitted, runs_of, IsLegal}
-use Rattle.serial_model.specs.Steps.{Turn}
-use Rattle.serial_model.proofs.Turning.{admit_step}
+use Rattle.serial_model.proofs.StepCases.{by_admit}
 use Rattle.server_links.specs.LinkEvent.{LinkEvent, Raw, Put, Over, Now, Tick}
 use Rattle.server_links.specs.declared.link.LinkMove.TheVariants as moves
 use Rattle.script_text.specs.declared.line.Line.{Line}
@@ -117,11 +116,14 @@ module _ (l : Limits) (heard : ℕ → List ℕ) (said : List ℕ
       → Meets (Ends (Raw name)) (Stops (Raw name)) (raw_step w name p)) [
         | Some at ↦ λ place. meets_refuses (Ends (Raw name)) (Stops (Raw name)) w NameTaken
             part_quiet
-        | None ↦ λ free. subst (λ (t : Turn). Meets (Ends (Raw name)) (Stops (Raw name))
-            (admitting_link w name t)) (sym (admit_step w.limits w.past))
-            (let m = stands_made l heard said lines w s name free in
+        | None ↦ λ free. by_admit w.limits w.past (λ t. Meets (Ends (Raw name)) (Stops (Raw name))
+            (admitting_link w name t))
+            (meets_once (Ends (Raw name)) (Stops (Raw name)) w w [] _
+            (λ e. still_stands l heard said lines w s) part_quiet part_quiet)
+            (λ on. let m = stands_made l heard said lines w s name free on in
             meets_once (Ends (Raw name)) (Stops (Raw name)) w
-            (made l heard said lines w s name free) (made_lines l heard said lines w s name free)
+            (made l heard said lines w s name free on)
+            (made_lines l heard said lines w s name free on)
             None (λ e. m) part_quiet (stands_part l _ _ _ _ m))
       ] refl
 
@@ -185,9 +187,9 @@ raw_grows : (name : List ℕ) (p : Option ℕ) (w : LinksState)
 unfolding Grows
 raw_grows name (Some at) w = meets_refuses (Grows w) (Grows w) w NameTaken ([], refl)
 raw_grows name None w =
-    subst (λ (t : Turn). Meets (Grows w) (Grows w) (admitting_link w name t))
-    (sym (admit_step w.limits w.past))
-    (meets_once (Grows w) (Grows w) w _ _ None
+    by_admit w.limits w.past (λ t. Meets (Grows w) (Grows w) (admitting_link w name t))
+    (meets_once (Grows w) (Grows w) w w [] _ (λ e. ([], refl)) ([], refl) ([], refl))
+    (λ on. meets_once (Grows w) (Grows w) w _ _ None
     (λ e. (entry.Admit (admitted w.past + 1) ∷ [], refl)) ([], refl)
     (entry.Admit (admitted w.past + 1) ∷ [], refl))
 

@@ -1,6 +1,7 @@
 pub mod Outcomes
 pub mod Clock
 pub mod Endings
+pub mod Drops
 pub mod Carries
 pub mod Moments
 pub mod Moving

@@ -13,7 +13,9 @@ use Rattle.std.proofs.lemmas.Bool.Decides.{nat_tests}
 use Rattle.serial_model.specs.declared.history.Limits.{Limits}
 use Rattle.serial_model.specs.declared.history.Entry.{Entry}
 use Rattle.serial_model.specs.State.{keeps_bytes}
-use Rattle.serial_model.specs.History.{admitted, is_admitted, reads_on, runs_of, state, IsLegal}
+use Rattle.serial_model.specs.EntryEffects.{drops_at}
+use Rattle.serial_model.specs.History.{admitted, is_admitted, is_stopped, reads_on, runs_of, state}
+use Rattle.serial_model.specs.History.{IsLegal}
 use Rattle.serial_model.specs.Laws.{Extends}
 use Rattle.serial_model.proofs.Streams.{taken_le, connected, stream_admit, stream_fresh, runs_fresh}
 use Rattle.script_text.specs.declared.line.Line.{Line}
@@ -22,12 +24,13 @@ use Rattle.std.proofs.Math.Seq.{take-nil}
 use Rattle.resp_stream.proofs.Onward.{no_requests, requests_begun}
 use Rattle.serial_model.specs.declared.history.Entry.TheVariants as entry
 use Rattle.server_links.specs.declared.link.Link.{Link}
-use Rattle.server_links.specs.EntryLines.{entry_lines, name_of}
+use Rattle.server_links.specs.EntryLines.{drop_lines, entry_lines, name_of}
 use Rattle.server_links.specs.OneHistory.{read_on, History}
 use Rattle.server_links.specs.Outcome.{Outcome}
 use Rattle.server_links.specs.Session.{Session, with_past, session_at, with_session}
 use Rattle.server_links.specs.LinkSteps.{over, place_of}
-use Rattle.server_links.specs.LinksState.{LinksState, at_place, fresh_link}
+use Rattle.server_links.specs.LinksState.{LinksState, at_place, fresh_link, names}
+use Rattle.server_links.proofs.Drops.{drops_front, drops_rise}
 use Rattle.server_links.proofs.Names.{unplaced}
 use Rattle.server_links.proofs.NameLists.{names_at, names_more, names_set, names_size}
 use Rattle.server_links.proofs.Outcomes.{Meets, meets_within}
@@ -108,8 +111,35 @@ other_account heard said read s entries past grows on e a =
           (sym (ap (λ p. reads_on l p c) grows) ∙ read));
     }
 
+-- whatever names the links have
+account_named : (heard said read : List ℕ) (s : Session) (ns : List (List ℕ))
+    → Account heard said read s → Account heard said read (record s { names = ns })
+account_named heard said read s ns a = record {
+  bytes = record {
+    up_lost = a.bytes.up_lost;
+    all_said = a.bytes.all_said;
+    none_up = a.bytes.none_up;
+    down_lost = a.bytes.down_lost;
+    all_taken = a.bytes.all_taken;
+    none_down = a.bytes.none_down;
+  };
+  runs = a.runs;
+  reading = a.reading;
+}
+
 pub not_equal : (a b : List ℕ) → (a ≡ b → ⊥) → bytes_eq a b ≡ false
 not_equal a b n = grind (arith, bytes_eq-Decides)
+
+-- the session of a link beside those of a world
+abbrev pub at_session : LinksState → Link → Session
+at_session w link =
+    record {
+      limits = w.limits;
+      now = w.now;
+      past = w.past;
+      names = names w.links;
+      link = link;
+    }
 
 -- ---- a move over the link at this place
 
@@ -125,9 +155,13 @@ module _ (l : Limits) (heard : ℕ → List ℕ) (said : List ℕ
     unfolding moved
     size = length-set w.links at t.link
 
+    named : names moved.links ≡ names w.links
+    unfolding moved
+    named = names_set w.links at t.link c.named
+
     mine : session_at at moved ≡ t
     unfolding moved
-    mine = grind (arith, get_or-set_same)
+    mine = grind (arith, get_or-set_same, named)
 
     theirs : (i : ℕ) → (at ≡ i → ⊥) → at_place moved.links i ≡ at_place w.links i
     unfolding moved
@@ -176,22 +210,23 @@ module _ (l : Limits) (heard : ℕ → List ℕ) (said : List ℕ
         let ids : ((at_place w.links at).id == link.id) ≡ false = grind (arith, ne_eqb) in
         let a = other_account (heard i) (said link.name) (read_on link.name lines) (session_at i w)
         c.entries t.past c.grows (grind arith) (c.others link.id ids) (s.accounts i lt) in
+        let there = at_session moved link in
         subst (λ (x : Link). Account (heard i ++ cond (at == i) piece []) (said x.name
         ++ cond (bytes_eq (at_place w.links at).name x.name) bytes [])
-        (read_on x.name (lines ++ ls))
-        (record { limits = w.limits; now = w.now; past = t.past; link = x })) (sym (theirs i n))
+        (read_on x.name (lines ++ ls)) (at_session moved x)) (sym (theirs i n))
         (subst (λ h. Account h (said link.name
         ++ cond (bytes_eq (at_place w.links at).name link.name) bytes [])
-        (read_on link.name (lines ++ ls)) (with_past (session_at i w) t.past))
+        (read_on link.name (lines ++ ls)) there)
         (sym (ap (λ b. heard i ++ cond b piece []) (ne_eqb at i n) ∙ append-nil (heard i)))
-        (subst (λ d. Account (heard i) d (read_on link.name (lines ++ ls))
-        (with_past (session_at i w) t.past))
+        (subst (λ d. Account (heard i) d (read_on link.name (lines ++ ls)) there)
         (sym (ap (λ b. said link.name ++ cond b bytes [])
         (not_equal (at_place w.links at).name link.name differ) ∙ append-nil (said link.name)))
-        (subst (λ r. Account (heard i) (said link.name) r (with_past (session_at i w) t.past))
+        (subst (λ r. Account (heard i) (said link.name) r there)
         (sym (read_more link.name lines ls ∙ ap (λ r. read_on link.name lines
         ++ r) (c.mute link.name (not_equal (at_place w.links at).name link.name differ))
-        ∙ append-nil (read_on link.name lines))) a)))
+        ∙ append-nil (read_on link.name lines)))
+        (account_named (heard i) (said link.name) (read_on link.name lines)
+        (with_past (session_at i w) t.past) (names moved.links) a))))
 
     stands_moved : Account (heard at ++ piece) (said (at_place w.links at).name
         ++ bytes) (read_on (at_place w.links at).name lines
@@ -279,12 +314,17 @@ module _ (l : Limits) (heard : ℕ → List ℕ) (said : List ℕ
 
 -- ---- a link is made
 
-fresh_account : (c : ℕ) (name : List ℕ) (l : Limits) (now : ℕ) (past : List Entry) → IsLegal l past
-    → admitted past < c →
-    Account [] [] []
-    (record { limits = l; now = now; past = entry.Admit c ∷ past; link = fresh_link c name })
+fresh_account : (c : ℕ) (name : List ℕ) (l : Limits) (now : ℕ) (past : List Entry)
+    (ns : List (List ℕ)) → IsLegal l past → admitted past < c →
+    Account [] [] [] (record {
+      limits = l;
+      now = now;
+      past = entry.Admit c ∷ past;
+      names = ns;
+      link = fresh_link c name;
+    })
 unfolding gave
-fresh_account c name l now past legal above =
+fresh_account c name l now past ns legal above =
     let runs : Ran [] [] l c (entry.Admit c ∷ past) = record {
       passed = [];
       all = append-nil (runs_of c past ++ []) ∙ append-nil (runs_of c past)
@@ -302,11 +342,25 @@ names_front : (l : Limits) (ns : List (List ℕ)) (name : List ℕ) (past : List
     → admitted past ≤ length ns → entry_lines l (ns ++ name ∷ []) past ≡ entry_lines l ns past
 names_front l ns name [] legal le = refl
 names_front l ns name (entry.Admit id ∷ past) legal le =
-    grind (arith, name_front, names_front l ns name past legal.1 (omega (arith, le)))
+    grind (arith, name_front, names_front l ns name past legal.2 (omega (arith, le)))
 names_front l ns name (entry.Run id words m ∷ past) legal le =
-    grind (arith, connected, name_front, names_front l ns name past legal.2 le)
+    let n = length past + 1 in
+    let e = entry.Run id words m in
+    let own : name_of (ns ++ name ∷ []) id ≡ name_of ns id = grind (arith, connected, name_front) in
+    ap (λ x. x ++ line.Run n (name_of (ns ++ name ∷ []) id) words
+    ∷ drop_lines n (ns ++ name ∷ []) (drops_at l e (state l past)))
+    (names_front l ns name past legal.2 le)
+    ∙ ap (λ x. entry_lines l ns past ++ line.Run n x words
+    ∷ drop_lines n (ns ++ name ∷ []) (drops_at l e (state l past))) own
+    ∙ ap (λ x. entry_lines l ns past ++ line.Run n (name_of ns id) words ∷ x)
+    (drops_front n 0 (admitted past) ns (name ∷ []) _ (drops_rise l e past) le)
 names_front l ns name (entry.Tick m ∷ past) legal le =
-    ap (λ x. x ++ line.Tick (length past + 1) m ∷ []) (names_front l ns name past legal.2 le)
+    let n = length past + 1 in
+    let e = entry.Tick m in
+    ap (λ x. x ++ line.Tick n m ∷ drop_lines n (ns ++ name ∷ []) (drops_at l e (state l past)))
+    (names_front l ns name past legal.3 le)
+    ∙ ap (λ x. entry_lines l ns past ++ line.Tick n m ∷ x)
+    (drops_front n 0 (admitted past) ns (name ∷ []) _ (drops_rise l e past) le)
 names_front l ns name (entry.Take id max ∷ past) legal le =
     grind (arith, connected, name_front, names_front l ns name past legal.2 le)
 names_front l ns name (entry.Close id ∷ past) legal le =
@@ -331,7 +385,7 @@ admitted_account heard said read s id still a = record {
 
 module _ (l : Limits) (heard : ℕ → List ℕ) (said : List ℕ
     → List ℕ) (lines : List Line) (w : LinksState) (s : Stands l heard said lines w) (name : List ℕ)
-    (free : place_of name w ≡ None) where
+    (free : place_of name w ≡ None) (goes_on : is_stopped w.limits w.past ≡ false) where
   abbrev pub made : LinksState
   made = record {
     limits = w.limits;
@@ -381,18 +435,19 @@ module _ (l : Limits) (heard : ℕ → List ℕ) (said : List ℕ
       let id = admitted w.past + 1 in
       let still = still_there x.id (omega (arith, s.history.ids i lt))
       (omega (arith, s.history.ids i lt, lt, s.history.links)) in
+      let there = at_session made x in
       subst (λ (y : Link). Account (heard i ++ []) (said y.name
-      ++ []) (read_on y.name (lines ++ made_lines))
-      (record { limits = w.limits; now = w.now; past = entry.Admit id ∷ w.past; link = y }))
+      ++ []) (read_on y.name (lines ++ made_lines)) (at_session made y))
       (sym (old_there i lt))
-      (subst (λ h. Account h (said x.name ++ []) (read_on x.name (lines ++ made_lines))
-      (with_past (session_at i w) (entry.Admit id ∷ w.past))) (sym (append-nil (heard i)))
-      (subst (λ d. Account (heard i) d (read_on x.name (lines ++ made_lines))
-      (with_past (session_at i w) (entry.Admit id ∷ w.past))) (sym (append-nil (said x.name)))
-      (subst (λ r. Account (heard i) (said x.name) r
-      (with_past (session_at i w) (entry.Admit id ∷ w.past))) (sym (same_lines x.name))
+      (subst (λ h. Account h (said x.name ++ []) (read_on x.name (lines ++ made_lines)) there)
+      (sym (append-nil (heard i)))
+      (subst (λ d. Account (heard i) d (read_on x.name (lines ++ made_lines)) there)
+      (sym (append-nil (said x.name)))
+      (subst (λ r. Account (heard i) (said x.name) r there) (sym (same_lines x.name))
+      (account_named (heard i) (said x.name) (read_on x.name lines)
+      (with_past (session_at i w) (entry.Admit id ∷ w.past)) (names made.links)
       (admitted_account (heard i) (said x.name) (read_on x.name lines) (session_at i w) id still
-      (s.accounts i lt)))))
+      (s.accounts i lt))))))
 
   new_account : (i : ℕ) → i ≡ length w.links → Account (heard i
       ++ []) (said (at_place made.links i).name
@@ -400,20 +455,16 @@ module _ (l : Limits) (heard : ℕ → List ℕ) (said : List ℕ
   new_account i e =
       let id = admitted w.past + 1 in
       let f = fresh_link id name in
+      let there = at_session made f in
       subst (λ (y : Link). Account (heard i ++ []) (said y.name
-      ++ []) (read_on y.name (lines ++ made_lines))
-      (record { limits = w.limits; now = w.now; past = entry.Admit id ∷ w.past; link = y }))
-      (sym (new_there i e))
-      (subst (λ h. Account h (said name ++ []) (read_on name (lines ++ made_lines))
-      (record { limits = w.limits; now = w.now; past = entry.Admit id ∷ w.past; link = f }))
+      ++ []) (read_on y.name (lines ++ made_lines)) (at_session made y)) (sym (new_there i e))
+      (subst (λ h. Account h (said name ++ []) (read_on name (lines ++ made_lines)) there)
       (sym (append-nil (heard i) ∙ s.unheard i (omega (arith, e))))
-      (subst (λ d. Account [] d (read_on name (lines ++ made_lines))
-      (record { limits = w.limits; now = w.now; past = entry.Admit id ∷ w.past; link = f }))
+      (subst (λ d. Account [] d (read_on name (lines ++ made_lines)) there)
       (sym (append-nil (said name) ∙ s.unsaid name nowhere))
-      (subst (λ r. Account [] [] r
-      (record { limits = w.limits; now = w.now; past = entry.Admit id ∷ w.past; link = f }))
-      (sym (same_lines name ∙ s.unread name nowhere))
-      (fresh_account id name w.limits w.now w.past s.history.legal (omega arith)))))
+      (subst (λ r. Account [] [] r there) (sym (same_lines name ∙ s.unread name nowhere))
+      (fresh_account id name w.limits w.now w.past (names made.links) s.history.legal
+      (omega arith)))))
 
   old_name : (i : ℕ) → i < length w.links → (at_place made.links i).name ≡ (at_place w.links i).name
   old_name i lt = ap (λ (x : Link). x.name) (old_there i lt)

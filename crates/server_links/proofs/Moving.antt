@@ -17,11 +17,12 @@ use Rattle.server_links.specs.declared.direction.Eof.TheVariants.{Read}
 use Rattle.server_links.specs.declared.fault.WorldFault.TheVariants.{NothingThere}
 use Rattle.server_links.specs.Directions.{finished, put, is_open, is_queued, without}
 use Rattle.server_links.specs.Directions.{without_bytes, past_eof, spent}
-use Rattle.server_links.specs.EntryLines.{is_entry_line, reply_lines}
+use Rattle.server_links.specs.EntryLines.{is_entry_line}
 use Rattle.server_links.specs.Outcome.{Outcome, stays, does, refuses, and_then}
 use Rattle.server_links.specs.Session.{Session, with_past, with_link, with_up, with_down}
 use Rattle.server_links.specs.Session.{with_reader}
 use Rattle.server_links.specs.Moves.{turned, turn, say, next_read, run_one, run_all, close, stop}
+use Rattle.server_links.specs.Moves.{stop_open}
 use Rattle.server_links.specs.Moves.{run_requests, run_fed, stopped_at, feed, serve_all, serve}
 use Rattle.server_links.specs.Moves.{take_down, all_bytes, send_all, send, eof_lines, read_bytes}
 use Rattle.server_links.specs.Moves.{read_eof, receive_all, receive, flow, move_of, moved, end_down}
@@ -29,7 +30,7 @@ use Rattle.server_links.proofs.Outcomes.{Meets, meets_stays, meets_once, meets_r
 use Rattle.server_links.proofs.Outcomes.{meets_weaker, Fronts, fronts_stays, fronts_refuses}
 use Rattle.server_links.proofs.Outcomes.{fronts_once, fronts_then}
 use Rattle.server_links.proofs.Carries.{Carries, carries_none, carries_more, carries_link}
-use Rattle.server_links.proofs.Carries.{run_carries, take_carries, close_carries}
+use Rattle.server_links.proofs.Carries.{run_carries, take_carries, close_carries, told}
 
 pub record Every (s : Session) (m : Outcome Session) : Type 0 where
   pub carries : Meets (Carries s) (Carries s) m
@@ -65,7 +66,7 @@ every_quiet s up down reader still =
     every_does s _ [] (grind (arith, carries_link))
 
 pub every_turned : (s : Session) (words : List (List ℕ)) (t : Turn)
-    → Carries s (with_past s t.past) (reply_lines s.link.name words t.reply)
+    → Carries s (with_past s t.past) (told s words t)
     → Every s (turned s words t)
 every_turned s words t c = grind (arith, meets_once, carries_none, fronts_once)
 
@@ -87,13 +88,22 @@ every_close : (s : Session) → Every s (close s)
 unfolding close turn
 every_close s = every_turned s [] _ (close_carries s)
 
-pub every_stop : (place : Option FaultPlace) (eof : Bool) (s : Session) → Every s (stop place eof s)
-every_stop (Some place) eof s =
+every_stop_open : (place : Option FaultPlace) (eof : Bool) (s : Session)
+    → Every s (stop_open place eof s)
+every_stop_open (Some place) eof s =
     every_then s _ _ (every_does s s _
     (carries_link s s.link _ refl refl (λ name n. refl) refl (λ h. h)))
     every_close
-every_stop None true s = every_close s
-every_stop None false s = every_none s
+every_stop_open None true s = every_close s
+every_stop_open None false s = every_none s
+
+pub every_stop : (place : Option FaultPlace) (eof : Bool) (s : Session) → Every s (stop place eof s)
+every_stop place eof s =
+    elim (reads_on s.limits s.past s.link.id) as (λ b. Every s
+    (cond b (stop_open place eof s) (stays s))) [
+      | true ↦ every_stop_open place eof s
+      | false ↦ every_none s
+    ]
 
 pub every_run_requests : (s : Session) → Every s (run_requests s)
 unfolding run_requests

@@ -18,8 +18,9 @@ use Rattle.serial_model.specs.declared.history.BookCall.TheVariants.{Admit, Run,
 use Rattle.serial_model.specs.declared.history.BookReply.{BookReply}
 use Rattle.serial_model.specs.History.{Sending, admitted, gives_on, latest, posts_of, posted}
 use Rattle.serial_model.specs.History.{expired, reads_on, run_entries, runs_of, sends, sent_to}
-use Rattle.serial_model.specs.History.{state, unsent, IsLegal}
-use Rattle.serial_model.specs.Steps.{closing, gone, taking, ticking, book_step, BookStep}
+use Rattle.serial_model.specs.History.{is_stopped, state, unsent, IsLegal}
+use Rattle.serial_model.specs.Steps.{Turn, admitting, closing, gone, stopped, taking, ticking}
+use Rattle.serial_model.specs.Steps.{book_step, BookStep}
 use Rattle.serial_model.proofs.Fresh.{sent_fresh}
 use Rattle.serial_model.proofs.Streams.{runs_fresh, connected}
 use Rattle.serial_model.proofs.Turning.{by_step}
@@ -95,11 +96,12 @@ posts_sent c (p ∷ ps) ts more le =
 runs_none : (l : Limits) (past : List Entry) (c : ℕ) → IsLegal l past → admitted past < c
     → run_entries c past ≡ []
 runs_none l [] c h lt = refl
-runs_none l (entry.Admit id ∷ past) c h lt = runs_none l past c h.1 (omega arith)
+runs_none l (entry.Admit id ∷ past) c h lt = runs_none l past c h.2 (omega arith)
 runs_none l (entry.Run id words moment ∷ past) c h lt =
     grind (arith, connected, runs_none l past c h.2 lt)
 runs_none l (entry.Close id ∷ past) c h lt = runs_none l past c h.1 lt
-runs_none l (e ∷ past) c h lt = runs_none l past c h.2 lt
+runs_none l (entry.Tick moment ∷ past) c h lt = runs_none l past c h.3 lt
+runs_none l (entry.Take id max ∷ past) c h lt = runs_none l past c h.2 lt
 
 module _ (l : Limits) (past : List Entry) (ts : List TrailState) (noted : IsNoted l past ts) where
   -- an entry that admits nobody
@@ -155,10 +157,9 @@ module _ (l : Limits) (past : List Entry) (ts : List TrailState) (noted : IsNote
   ticking_noted now moment (key ∷ keys) =
       quiet_noted l past ts noted (entry.Tick moment) refl (λ c. refl) (λ c. refl)
 
-  step_noted : (call : BookCall)
-      → Noted call (book_step l past call).reply (book_step l past call).past
-  unfolding book_step posted Noted
-  step_noted Admit =
+  admit_noted : let t = admitting past in Noted Admit t.reply t.past
+  unfolding posted Noted
+  admit_noted =
       grind (
         arith,
         length-append,
@@ -169,9 +170,26 @@ module _ (l : Limits) (past : List Entry) (ts : List TrailState) (noted : IsNote
         runs_fresh,
         append-nil,
       )
+
+  -- a call that a stopped server refuses
+  unless_stopped : (call : BookCall) (turn : Turn) → Noted call turn.reply turn.past
+      → let t = cond (is_stopped l past) (stopped past) turn in Noted call t.reply t.past
+  unfolding Noted
+  unless_stopped call turn does =
+      elim (is_stopped l past) as (λ b.
+      let t = cond b (stopped past) turn in Noted call t.reply t.past) [
+        | true ↦ noted
+        | false ↦ does
+      ]
+
+  step_noted : (call : BookCall)
+      → Noted call (book_step l past call).reply (book_step l past call).past
+  unfolding book_step posted Noted
+  step_noted Admit = unless_stopped Admit (admitting past) admit_noted
   step_noted (Run id words now) = grind (arith, Noted, run_noted, max)
   step_noted (Tick now) =
-      let moment = max now (latest past) in ticking_noted now moment (expired l past moment)
+      let moment = max now (latest past) in
+      unless_stopped (Tick now) _ (ticking_noted now moment (expired l past moment))
   step_noted (Take id most) =
       elim (gives_on l past id) as (λ b.
       let t = cond b (taking past id most (take most (unsent l id past))) (gone past id) in

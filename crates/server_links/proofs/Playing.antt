@@ -18,12 +18,13 @@ use Rattle.server_links.specs.declared.fault.WorldFault.{WorldFault}
 use Rattle.server_links.specs.declared.fault.WorldFault.TheVariants.{NoMemory, NothingThere}
 use Rattle.server_links.specs.declared.link.Link.{Link}
 use Rattle.server_links.specs.ServerState.{ServerState}
-use Rattle.server_links.specs.EntryLines.{reply_lines}
+use Rattle.server_links.specs.EntryLines.{dropped_lines, reply_lines}
 use Rattle.server_links.specs.declared.direction.Direction.{Direction}
 use Rattle.server_links.specs.Directions.{finished, put, is_open, is_queued, without}
 use Rattle.server_links.specs.Directions.{without_bytes, past_eof}
 use Rattle.server_links.specs.Moves.{turned, turn, bytes_of, take_down, read_lines, eof_lines}
-use Rattle.server_links.specs.Moves.{read_bytes, read_eof, receive_all, stop, close, feed, run_fed}
+use Rattle.server_links.specs.Moves.{read_bytes, read_eof, receive_all, stop, stop_open, close}
+use Rattle.server_links.specs.Moves.{feed, run_fed}
 use Rattle.server_links.specs.Moves.{serve, serve_all, all_bytes, end_down, send, send_all}
 use Rattle.server_links.specs.Moves.{with_end}
 use Rattle.resp_stream.specs.declared.fault.FaultPlace.{FaultPlace}
@@ -36,19 +37,21 @@ use Rattle.server_links.specs.Turns.{TurnGives}
 
 -- a turn changes the history of a server, and no more
 pub server_turned : (old new : ServerState) (link : Link) → new.book.limits ≡ old.book.limits
-    → new.clock ≡ old.clock → session new link ≡ with_past (session old link) new.book.past
-server_turned old new link l c = grind arith
+    → new.clock ≡ old.clock → new.names ≡ old.names
+    → session new link ≡ with_past (session old link) new.book.past
+server_turned old new link l c n = grind arith
 
 module _ (s : Session) (c : BookCall) (words : List (List ℕ)) (past : List Entry) (x : Line)
     (lines lines' : List Line) where
-  pub turn_gives : (reply : BookReply) → TurnGives s.limits s.past c x lines (Ok reply) past lines'
+  pub turn_gives : (reply : BookReply)
+      → TurnGives s.limits s.names s.past c x lines (Ok reply) past lines'
       → reply_lines s.link.name words reply ≡ x ∷ []
       → Ends (turn c words s) lines (with_past s past) lines'
   unfolding turn
   turn_gives reply g is = grind arith
 
   pub turn_stops : (fault : WorldFault)
-      → TurnGives s.limits s.past c x lines (Err fault) past lines'
+      → TurnGives s.limits s.names s.past c x lines (Err fault) past lines'
       → Stops (turn c words s) lines fault (with_past s past) lines'
   unfolding turn
   turn_stops fault g = grind (arith, append-nil)
@@ -59,7 +62,7 @@ pub turn_before : (s : Session) (c : BookCall) (words : List (List ℕ)) (lines 
 unfolding turn
 turn_before s c words lines = ([], inl (refl, refl), sym (append-nil lines))
 
--- behind a QUIT a request is passed over
+-- behind a QUIT or a drop a request is passed over
 pub run_passed : (s : Session) (words : List (List ℕ)) (lines : List Line)
     → runs_on s.limits s.past s.link.id ≡ false
     → Ends (turn (call.Run s.link.id words s.now) words s) lines s lines
@@ -110,7 +113,8 @@ module _ (most : ℕ) (s : Session) (lines : List Line) where
 
   module _ (past : List Entry) (x : Line) (lines' : List Line) where
     pub take_stops : (fault : WorldFault)
-        → TurnGives s.limits s.past (call.Take s.link.id most) x lines (Err fault) past lines'
+        → TurnGives s.limits s.names s.past (call.Take s.link.id most) x lines (Err fault) past
+        lines'
         → Stops (take_down most s) lines fault (with_past s past) lines'
     unfolding take_down turn
     take_stops fault g =
@@ -118,8 +122,9 @@ module _ (most : ℕ) (s : Session) (lines : List Line) where
         fault (with_past s past) lines' (turn_stops s (call.Take s.link.id most) [] past x lines
         lines' fault g)
 
-    module _ (reply : BookReply) (g : TurnGives s.limits s.past (call.Take s.link.id most) x lines
-        (Ok reply) past lines') (is : reply_lines s.link.name [] reply ≡ x ∷ []) where
+    module _ (reply : BookReply) (g : TurnGives s.limits s.names s.past
+        (call.Take s.link.id most) x lines (Ok reply) past lines')
+        (is : reply_lines s.link.name [] reply ≡ x ∷ []) where
       taken : Ends (turned s [] (book_step s.limits s.past (call.Take s.link.id most))) lines
           (with_past s past) lines'
       unfolding turn
@@ -256,11 +261,19 @@ receive_before s lines =
 
 -- ---- what stops the reading
 
+module _ (place : Option FaultPlace) (eof : Bool) (s : Session) where
+  pub stop_off : reads_on s.limits s.past s.link.id ≡ false → stop place eof s ≡ stays s
+  stop_off off = ap (λ b. cond b (stop_open place eof s) (stays s)) off
+
+  pub stop_on : reads_on s.limits s.past s.link.id ≡ true
+      → stop place eof s ≡ stop_open place eof s
+  stop_on on = ap (λ b. cond b (stop_open place eof s) (stays s)) on
+
 module _ (place : Option FaultPlace) (at : FaultPlace) (eof : Bool) (s : Session)
     (lines : List Line) (is : place ≡ Some at) where
-  pub stop_before : Stops (stop place eof s) lines NoMemory s lines
+  pub stop_before : Stops (stop_open place eof s) lines NoMemory s lines
   stop_before =
-      subst (λ p. Stops (stop p eof s) lines NoMemory s lines) (sym is)
+      subst (λ p. Stops (stop_open p eof s) lines NoMemory s lines) (sym is)
       (stops_first (does s s (line.Bad s.link.name at.number at.offset ∷ [])) close lines NoMemory s
       lines (stops_here (does s s (line.Bad s.link.name at.number at.offset ∷ [])) s lines
       refl))
@@ -268,9 +281,9 @@ module _ (place : Option FaultPlace) (at : FaultPlace) (eof : Bool) (s : Session
   pub stop_gives : {A : Type 0}
       → (lines1 : List Line) (r : Result A WorldFault) (t : Session) (lines2 : List Line)
       → lines1 ≡ lines ++ line.Bad s.link.name at.number at.offset ∷ []
-      → Gives (close s) lines1 r t lines2 → Gives (stop place eof s) lines r t lines2
+      → Gives (close s) lines1 r t lines2 → Gives (stop_open place eof s) lines r t lines2
   stop_gives lines1 r t lines2 told g =
-      subst (λ p. Gives (stop p eof s) lines r t lines2) (sym is)
+      subst (λ p. Gives (stop_open p eof s) lines r t lines2) (sym is)
       (gives_then (does s s (line.Bad s.link.name at.number at.offset ∷ [])) close lines r s lines1
       r t lines2 (refl, refl, told) g)
 

@@ -1,24 +1,28 @@
 -- A refused event leaves the world as it was, and prints nothing.
 use Rattle.std.proofs.Common.{◌≡◌, ℕ, List, [], ◌∷◌, Bool, false, cond, Some, None, Option, length}
-use Rattle.std.proofs.Common.{refl, arith}
+use Rattle.std.proofs.Common.{refl, arith, max, true}
 use Rattle.std.specs.Prelude.{◌&&◌, nat_le}
 use Rattle.std.proofs.lemmas.List.{set-get_or}
 use Rattle.resp_stream.specs.declared.fault.FaultPlace.{FaultPlace}
 use Rattle.resp_stream.specs.Parse.{parse}
-use Rattle.serial_model.specs.History.{reads_on, gives_on, unsent}
+use Rattle.serial_model.specs.History.{reads_on, gives_on, latest, unsent}
+use Rattle.serial_model.specs.Steps.{admitting as joining}
+use Rattle.serial_model.proofs.StepCases.{by_admit, by_tick, quiet, ticked}
 use Rattle.server_links.specs.LinkEvent.{LinkEvent, Raw, Put, Over, Now, Tick}
 use Rattle.server_links.specs.declared.link.LinkMove.{LinkMove}
 use Rattle.server_links.specs.declared.link.LinkMove.TheVariants as moves
 use Rattle.server_links.specs.declared.fault.WorldFault.{WorldFault}
-use Rattle.server_links.specs.declared.fault.WorldFault.TheVariants.{NothingThere}
+use Rattle.server_links.specs.declared.fault.WorldFault.TheVariants.{NameTaken, NothingThere}
 use Rattle.server_links.specs.Directions.{is_open}
 use Rattle.server_links.specs.Faults.{IsRefusal}
-use Rattle.server_links.specs.Moves.{turn, run_one, run_all, close, stop, run_requests, run_fed}
+use Rattle.server_links.specs.Moves.{turn, run_one, run_all, close, stop, stop_open, run_requests}
+use Rattle.server_links.specs.Moves.{run_fed}
 use Rattle.server_links.specs.Moves.{stopped_at, serve_all, take_down, send_all, receive_all, flow}
 use Rattle.server_links.specs.Moves.{move_of, moved, end_down}
 use Rattle.server_links.specs.Outcome.{Outcome, stays, refuses, and_then, within}
 use Rattle.server_links.specs.Session.{Session}
-use Rattle.server_links.specs.LinkSteps.{over, over_named, place_of, raw_step, step, tick}
+use Rattle.server_links.specs.LinkSteps.{admitting, over, over_named, place_of, raw_step, step}
+use Rattle.server_links.specs.LinkSteps.{tick, ticking}
 use Rattle.server_links.specs.LinksState.{LinksState}
 
 -- ---- what is never refused
@@ -41,9 +45,16 @@ un_run_all (words ∷ requests) s =
     un_then (run_one words s) (run_all requests) (un_then _ _ none (λ t. none))
     (un_run_all requests)
 
-un_stop : (place : Option FaultPlace) (eof : Bool) (s : Session) → Unrefused (stop place eof s)
+un_stop_open : (place : Option FaultPlace) (eof : Bool) (s : Session)
+    → Unrefused (stop_open place eof s)
 unfolding close turn Unrefused
-un_stop place eof s = grind (arith, un_then, none)
+un_stop_open (Some place) eof s = un_then _ _ none (λ t. none)
+un_stop_open None true s = none
+un_stop_open None false s = none
+
+un_stop : (place : Option FaultPlace) (eof : Bool) (s : Session) → Unrefused (stop place eof s)
+unfolding Unrefused
+un_stop place eof s = grind (arith, un_stop_open, none)
 
 un_run_fed : (eof : Bool) (s : Session) → Unrefused (run_fed eof s)
 unfolding run_fed run_requests Unrefused
@@ -127,17 +138,28 @@ unchanged_named : (p : Option ℕ) (e : LinkEvent) (w : LinksState)
     → Unchanged w (over_named p (move_of e) w)
 unchanged_named p e w = grind (arith, refused, unchanged_over)
 
+-- of a stopped server too
 unchanged_raw : (name : List ℕ) (p : Option ℕ) (w : LinksState) → Unchanged w (raw_step w name p)
-unfolding Unrefused
-unchanged_raw name p w = grind (arith, refused, accepted, none)
+unfolding Unrefused Unchanged
+unchanged_raw name (Some at) w = refused w NameTaken
+unchanged_raw name None w =
+    by_admit w.limits w.past (λ t. Unchanged w (admitting w name t)) (λ f e r. (refl, refl))
+    (λ on. accepted w (admitting w name (joining w.past)) none)
+
+unchanged_tick : (w : LinksState) → Unchanged w (tick w)
+unfolding tick Unrefused Unchanged
+unchanged_tick w =
+    by_tick w.limits w.past (λ t. Unchanged w (ticking w t)) w.now (λ f e r. (refl, refl))
+    (accepted w (ticking w (quiet w.past)) none)
+    (λ on some. accepted w (ticking w (ticked w.past (max w.now (latest w.past)))) none)
 
 unchanged : (e : LinkEvent) (w : LinksState) → Unchanged w (step w e)
-unfolding step tick Unrefused
+unfolding step Unrefused
 unchanged (Raw name) w = unchanged_raw name (place_of name w) w
 unchanged (Put name bytes) w = unchanged_named (place_of name w) (Put name bytes) w
 unchanged (Over name move) w = unchanged_named (place_of name w) (Over name move) w
 unchanged (Now moment) w = accepted w _ none
-unchanged Tick w = accepted w _ none
+unchanged Tick w = unchanged_tick w
 
 pub faults_none : (w : LinksState) (e : LinkEvent) (fault : WorldFault)
     → (step w e).fault ≡ Some fault

@@ -99,18 +99,20 @@ raw_timely name (Some at) w =
 raw_timely name None w =
     let T : LinksState → List Line → Type 0 = λ v ls. Timely w.now w v in
     let same = timely_same w in
+    by_admit w.limits w.past (λ t. Times w.now w (admitting w name t))
+    (meets_once T T w w [] _ (λ none. same) same same)
+    (λ on.
     let made : Timely w.now w (admitting w name (joining w.past)).state = record {
       limits = refl;
       now = refl;
-      legal = λ h. (refl, h);
+      legal = λ h. (on, refl, h);
       grows = λ h. record {
         entries = entry.Admit (admitted w.past + 1) ∷ [];
         grows = refl;
         timed = tt;
       };
     } in
-    by_admit w.limits w.past (λ t. Times w.now w (admitting w name t))
-    (meets_once T T w _ _ None (λ none. made) same made)
+    meets_once T T w _ _ None (λ none. made) same made)
 
 tick_timely : (w : LinksState) → Times w.now w (tick w)
 unfolding tick
@@ -118,13 +120,14 @@ tick_timely w =
     let T : LinksState → List Line → Type 0 = λ v ls. Timely w.now w v in
     let same = timely_same w in
     by_tick w.limits w.past (λ t. Times w.now w (ticking w t)) w.now
+    (meets_once T T w w [] _ (λ none. same) same same)
     (meets_once T T w w [] None (λ none. same) same same)
-    (λ some.
+    (λ on some.
     let made : Timely w.now w (ticking w (ticked w.past (max w.now (latest w.past)))).state =
     record {
       limits = refl;
       now = refl;
-      legal = λ h. (some, le-max_right w.now (latest w.past), h);
+      legal = λ h. (on, some, le-max_right w.now (latest w.past), h);
       grows = λ h. record {
         entries = entry.Tick (max w.now (latest w.past)) ∷ [];
         grows = refl;

@@ -7,9 +7,10 @@ pub mod LinksState
 pub mod Session
 pub mod Outcome
 pub mod EntryLines
-pub mod Turns
+pub mod DropNames
 pub mod Moves
 pub mod LinkSteps
+pub mod Turns
 pub mod Transcript
 pub mod Clock
 pub mod OneHistory

@@ -6,7 +6,8 @@ use Rattle.std.specs.Str.{bytes_eq}
 use Rattle.serial_model.specs.declared.history.Entry.{Entry}
 use Rattle.serial_model.specs.declared.history.BookCall.TheVariants as call
 use Rattle.serial_model.specs.declared.history.BookReply.{BookReply}
-use Rattle.serial_model.specs.declared.history.BookReply.TheVariants.{Admitted, Ticked}
+use Rattle.serial_model.specs.declared.history.BookReply.TheVariants.{Admitted, Refused, Ticked}
+use Rattle.serial_model.specs.declared.history.BookRefusal.TheVariants as refusal
 use Rattle.serial_model.specs.Steps.{Turn, book_step}
 use Rattle.server_links.specs.LinkEvent.{LinkEvent, Raw, Put, Over, Now, Tick}
 use Rattle.serial_model.specs.History.{latest}
@@ -14,9 +15,10 @@ use Rattle.script_text.specs.declared.line.Line.TheVariants as line
 use Rattle.script_text.specs.declared.line.Line.{Line}
 use Rattle.server_links.specs.declared.fault.WorldFault.{WorldFault}
 use Rattle.server_links.specs.declared.fault.WorldFault.TheVariants.{NoName, NameTaken}
+use Rattle.server_links.specs.declared.fault.WorldFault.TheVariants as fault
 use Rattle.server_links.specs.declared.link.Link.{Link}
-use Rattle.server_links.specs.LinksState.{LinksState, fresh_link}
-use Rattle.server_links.specs.EntryLines.{reply_lines}
+use Rattle.server_links.specs.LinksState.{LinksState, fresh_link, names}
+use Rattle.server_links.specs.EntryLines.{dropped_lines, reply_lines}
 use Rattle.server_links.specs.Moves.{move_of}
 use Rattle.server_links.specs.Outcome.{Outcome, Gives, refuses, stays, within}
 use Rattle.server_links.specs.Session.{Session, session_at, with_session}
@@ -48,11 +50,19 @@ with_admitted w name (Admitted e id) past =
     }
 with_admitted w name reply past = w
 
+-- the number of the refusal of a server that a SHUTDOWN stopped
+abbrev pub stopped_number : ℕ
+stopped_number = 4
+
+abbrev pub stopped_fault : BookReply → Option WorldFault
+stopped_fault (Refused refusal.Stopped) = Some (fault.Refused stopped_number)
+stopped_fault reply = None
+
 abbrev pub admitting : LinksState → List ℕ → Turn → Stepped
 admitting w name t = record {
   state = with_admitted w name t.reply t.past;
   lines = reply_lines name [] t.reply;
-  fault = None;
+  fault = stopped_fault t.reply;
   points = (w, []) ∷ [];
 }
 
@@ -60,16 +70,20 @@ abbrev pub raw_step : LinksState → List ℕ → Option ℕ → Stepped
 raw_step w name (Some at) = refuses w NameTaken
 raw_step w name None = admitting w name (book_step w.limits w.past call.Admit)
 
--- the line of a Tick at a moment; a quiet one prints none
-abbrev pub tick_lines : ℕ → BookReply → List Line
-tick_lines moment (Ticked e) = line.Tick e moment ∷ []
-tick_lines moment reply = []
+abbrev pub tick_line : ℕ → BookReply → List Line
+tick_line moment (Ticked e) = line.Tick e moment ∷ []
+tick_line moment reply = []
+
+-- the lines of a Tick at a moment; a quiet one prints none
+abbrev pub tick_lines : LinksState → ℕ → Turn → List Line
+tick_lines w moment t = tick_line moment t.reply
+    ++ dropped_lines w.limits (names w.links) t.reply t.past
 
 abbrev pub ticking : LinksState → Turn → Stepped
 ticking w t = record {
   state = record { limits = w.limits; now = w.now; past = t.past; links = w.links };
-  lines = tick_lines (max w.now (latest w.past)) t.reply;
-  fault = None;
+  lines = tick_lines w (max w.now (latest w.past)) t;
+  fault = stopped_fault t.reply;
   points = (w, []) ∷ [];
 }
 

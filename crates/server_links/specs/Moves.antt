@@ -1,5 +1,5 @@
 -- What moves over one link.
-use Rattle.std.specs.Prelude.{◌^◌, ◌-◌, ◌&&◌, ◌==◌, ℕ, List, [], ◌∷◌, Bool, true, false}
+use Rattle.std.specs.Prelude.{◌^◌, ◌-◌, ◌&&◌, ◌==◌, ℕ, List, [], ◌∷◌, ◌++◌, Bool, true, false}
 use Rattle.std.specs.Prelude.{if◌then◌else◌, nat_le, length, take}
 use Rattle.std.specs.declared.option.Option.{Option}
 use Rattle.std.specs.declared.option.Option.TheVariants.{None, Some}
@@ -25,17 +25,19 @@ use Rattle.server_links.specs.declared.fault.WorldFault.TheVariants.{NothingTher
 use Rattle.server_links.specs.declared.direction.Direction.{Direction}
 use Rattle.server_links.specs.Directions.{cut, finished, is_open, is_queued, past_eof, put, without}
 use Rattle.server_links.specs.Directions.{without_bytes}
-use Rattle.server_links.specs.EntryLines.{reply_lines}
+use Rattle.server_links.specs.EntryLines.{dropped_lines, reply_lines}
 use Rattle.server_links.specs.Outcome.{Outcome, and_then, does, refuses, stays}
 use Rattle.server_links.specs.Session.{Session, with_down, with_link, with_past, with_reader}
 use Rattle.server_links.specs.Session.{with_up}
 
 -- ---- a turn of the server
 
+-- it prints what the turn did, and then whom it dropped
 abbrev pub turned : Session → List (List ℕ) → Turn → Outcome Session
 turned s words t = record {
   state = with_past s t.past;
-  lines = reply_lines s.link.name words t.reply;
+  lines = reply_lines s.link.name words t.reply
+      ++ dropped_lines s.limits s.names t.reply t.past;
   fault = None;
   points = (s, []) ∷ [];
 }
@@ -62,7 +64,8 @@ next_read s =
     with_link s (with_reader s.link (past_request s.link.reader
     (request_at (skip_empty s.link.reader.rest))))
 
--- behind a QUIT a request is passed over: its Run is refused, prints nothing and adds no entry
+-- behind a QUIT or a drop a request is passed over: its Run is refused, prints nothing and adds no
+-- entry
 unfoldable pub run_one : List (List ℕ) → Session → Outcome Session
 run_one words s =
     and_then (does s (next_read s) []) (λ s. turn (call.Run s.link.id words s.now) words s)
@@ -80,16 +83,21 @@ stopped_at (Some fault) = fault_place fault
 
 -- a fault of the stream closes the connection, and so does an EOF that was read, also after a QUIT;
 -- what follows a fault is passed over
-abbrev pub stop : Option FaultPlace → Bool → Session → Outcome Session
-stop (Some place) eof s =
+abbrev pub stop_open : Option FaultPlace → Bool → Session → Outcome Session
+stop_open (Some place) eof s =
     and_then (does s s (line.Bad s.link.name place.number place.offset ∷ [])) close
-stop None true s = close s
-stop None false s = stays s
+stop_open None true s = close s
+stop_open None false s = stays s
+
+-- where one of the requests, or what it told, dropped the connection, both are passed over
+abbrev pub stop : Option FaultPlace → Bool → Session → Outcome Session
+stop fault eof s =
+    if reads_on s.limits s.past s.link.id then stop_open fault eof s else stays s
 
 abbrev pub rest_read : Stream → Session → Outcome Session
 rest_read rest s = does s (with_link s (with_reader s.link rest)) []
 
--- each whole request in what was fed is one Run, up to a QUIT
+-- each whole request in what was fed is one Run, up to a QUIT or a drop
 unfoldable pub run_requests : Session → Outcome Session
 run_requests s =
     let p = parse s.link.reader in and_then (run_all p.items s) (rest_read p.stream)

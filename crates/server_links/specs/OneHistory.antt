@@ -1,7 +1,7 @@
 -- What the headline says of a schedule over bytes: one serial history, with each request once, and
 -- replies that are its replies. Every byte is read, in flight or lost, and it is lost only by a
 -- cut.
-use Rattle.std.specs.Prelude.{◌≡◌, ◌+◌, ◌<◌, ◌≤◌, ℕ, List, [], ◌∷◌, ◌++◌, Bool, true, false}
+use Rattle.std.specs.Prelude.{◌≡◌, ◌+◌, ◌<◌, ◌≤◌, ◌||◌, ℕ, List, [], ◌∷◌, ◌++◌, Bool, true, false}
 use Rattle.std.specs.Prelude.{if◌then◌else◌, filter, length, take}
 use Rattle.std.specs.declared.option.Option.TheVariants.{None, Some}
 use Rattle.std.specs.List.{flat_map}
@@ -12,6 +12,7 @@ use Rattle.serial_model.specs.declared.history.Limits.{Limits}
 use Rattle.serial_model.specs.declared.history.Entry.{Entry}
 use Rattle.serial_model.specs.declared.standing.Standing.{Standing}
 use Rattle.serial_model.specs.declared.standing.Standing.TheVariants.{Live, Quit, QuitClosed, Gone}
+use Rattle.serial_model.specs.EntryEffects.{was_dropped}
 use Rattle.serial_model.specs.History.{admitted, has_ended, is_quit, reads_on, runs_of, state}
 use Rattle.serial_model.specs.History.{stream, taken, unsent, IsLegal}
 use Rattle.server_links.specs.LinkEvent.{LinkEvent, Raw, Put, Over, Now, Tick}
@@ -46,6 +47,7 @@ said_to link events = flat_map (said_by link) events
 abbrev pub read_by : List ℕ → Line → List ℕ
 read_by link (line.Admit e name id) = []
 read_by link (line.Run e name words) = []
+read_by link (line.Drop e name) = []
 read_by link (line.Bad name number offset) = []
 read_by link (line.Close e name) = []
 read_by link (line.Take e name count) = []
@@ -90,9 +92,9 @@ has_quit QuitClosed = true
 has_quit Gone = false
 
 -- Whether a connection ended before all that was heard of it ran: otherwise than by a Close alone,
--- so by QUIT. An output that grew past its limit and SHUTDOWN end none yet.
+-- so by its QUIT, or since an entry dropped it.
 abbrev pub ended_early : Limits → ℕ → List Entry → Bool
-ended_early l c past = has_quit ((state l past).standing c)
+ended_early l c past = has_quit ((state l past).standing c) || was_dropped l c past
 
 -- a QUIT is the last of these requests, if there is one
 abbrev pub QuitIsLast : List (List (List ℕ)) → Type 0
@@ -105,8 +107,8 @@ pub record Serves (l : Limits) (heard said read : List ℕ) (past : List Entry) 
     pub up_lost : is_open link.up.eof ≡ true → up.lost ≡ []
     pub down : Returns l read past link
     pub down_lost : is_open link.down.eof ≡ true → down.lost ≡ []
-    -- the Runs are the requests in what was heard, up to a fault of the stream or a QUIT, each once
-    -- and in order
+    -- the Runs are the requests in what was heard, up to a fault of the stream, a QUIT or a drop,
+    -- each once and in order
     pub runs_front : IsPrefix (runs_of link.id past) (requests_of heard)
     pub runs_all : ended_early l link.id past ≡ false → runs_of link.id past ≡ requests_of heard
     pub quit_last : QuitIsLast (runs_of link.id past)

@@ -16,11 +16,15 @@ pub enum WorldFault {
     /// Fewer bytes were there than the event moves.
     NothingThere,
     NoMemory,
-    /// A client of the world refused what it was asked, by the refusal of this number.
+    /// A client of the world refused what it was asked, or a SHUTDOWN stopped the server, by the
+    /// refusal of this number.
     Refused { number: u64 },
     /// A client's log has as many entries as it may have, and the event needs one more.
     HistoryFull { entries: u64 },
 }
+
+/// The number of the refusal of a server that a SHUTDOWN stopped.
+pub const STOPPED: u64 = 4;
 
 impl WorldFault {
     /// The number in the last line of a schedule that was refused.

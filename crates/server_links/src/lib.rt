@@ -3,6 +3,7 @@
 
 mod client_end;
 mod direction;
+mod drop_lines;
 mod fault;
 mod laws;
 mod link;

@@ -1,11 +1,12 @@
 //! The server's end of a link: it reads requests and runs them, and sends what they are answered.
-ghost use Rattle.std.specs.Prelude.{◌≡◌, ◌<◌, true, IfOk, OnOk};
+ghost use Rattle.std.specs.Prelude.{◌≡◌, ◌<◌, true, IfOk};
 ghost use Rattle.resp_stream.specs.Parse.{parse};
 ghost use Rattle.serial_model.specs.declared.history.BookCall.TheVariants as call;
 ghost use Rattle.serial_model.specs.History.{gives_on, reads_on};
 ghost use Rattle.server_links.specs.Moves.{close, stopped_at, run_fed, run_requests, send};
 ghost use Rattle.server_links.specs.Moves.{send_all};
-ghost use Rattle.server_links.specs.Moves.{serve, serve_all, stop, take_down, turn, with_end};
+ghost use Rattle.server_links.specs.Moves.{serve, serve_all, stop, stop_open, take_down, turn};
+ghost use Rattle.server_links.specs.Moves.{with_end};
 ghost use Rattle.server_links.specs.Outcome.{Gives};
 ghost use Rattle.server_links.specs.Session.{session};
 
@@ -62,7 +63,6 @@ impl Link {
         eof: bool,
         lines: &mut Lines,
     ) -> Result<(), WorldFault>
-        requires { reads_on server.old.book.limits server.old.book.past self.old.id ≡ true }
         ensures { Gives (run_fed eof (session server.old self.old)) lines.old result
             (session server.new self.new) lines.new }
     {
@@ -70,18 +70,16 @@ impl Link {
         self.stop(server, fault, eof, lines)
     }
 
-    /// Each whole request is one Run, up to a QUIT; the fault that stands after them, if any.
+    /// Each whole request is one Run, up to a QUIT or a drop; the fault that stands after them, if
+    /// any.
     fn run_requests(
         &mut self,
         server: &mut Server,
         lines: &mut Lines,
     ) -> Result<Option<FaultPlace>, WorldFault>
-        requires { reads_on server.old.book.limits server.old.book.past self.old.id ≡ true }
         ensures gives { Gives (run_requests (session server.old self.old)) lines.old result
             (session server.new self.new) lines.new }
         ensures fault { IfOk result (λ f. f ≡ stopped_at (parse self.old.reader).fault) }
-        ensures reads_on { OnOk result
-            (reads_on server.new.book.limits server.new.book.past self.new.id ≡ true) }
     {
         'requests: loop {
             match self.reader.next_request() {
@@ -97,7 +95,7 @@ impl Link {
         }
     }
 
-    /// One Run. What stands behind a QUIT is passed over.
+    /// One Run. What stands behind a QUIT or a drop is passed over.
     fn run_one(
         &self,
         server: &mut Server,
@@ -128,7 +126,7 @@ impl Link {
         Ok(())
     }
 
-    /// Closes where something stops the reading: a fault of the stream, or an EOF that was read.
+    /// Closes where something stops the reading, unless the connection was dropped.
     fn stop(
         &self,
         server: &mut Server,
@@ -136,8 +134,25 @@ impl Link {
         eof: bool,
         lines: &mut Lines,
     ) -> Result<(), WorldFault>
-        requires { reads_on server.old.book.limits server.old.book.past self.now.id ≡ true }
         ensures { Gives (stop fault eof (session server.old self.now)) lines.old result
+            (session server.new self.now) lines.new }
+    {
+        if server.reads_on(self.id) {
+            return self.stop_open(server, fault, eof, lines);
+        }
+        Ok(())
+    }
+
+    /// Closes where something stops the reading: a fault of the stream, or an EOF that was read.
+    fn stop_open(
+        &self,
+        server: &mut Server,
+        fault: Option<FaultPlace>,
+        eof: bool,
+        lines: &mut Lines,
+    ) -> Result<(), WorldFault>
+        requires { reads_on server.old.book.limits server.old.book.past self.now.id ≡ true }
+        ensures { Gives (stop_open fault eof (session server.old self.now)) lines.old result
             (session server.new self.now) lines.new }
     {
         match fault {

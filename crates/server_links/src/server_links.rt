@@ -13,13 +13,12 @@ ghost use Rattle.server_links.specs.LinksState.{AreApart, IsOver, at_place, name
 ghost use Rattle.server_links.specs.Notes.{sent_entries};
 ghost use Rattle.server_links.specs.Turns.{TurnGives};
 
-use super::fault::WorldFault;
+use super::fault::{STOPPED, WorldFault};
 use super::link::{Link, LinkMove};
-use super::name_list::Names;
 use super::server::Server;
 use resp_value::{NoMemory, Octets, Words};
 use script_text::{Line, Lines};
-use server_book::{BookCall, BookReply, Limits};
+use server_book::Limits;
 use std::alloc::Global;
 use std::marker::Model;
 
@@ -29,8 +28,6 @@ pub struct ServerLinks {
     alloc: Global,
     server: Server,
     links: Vec<Link>,
-    // those of the links, in order
-    names: Names,
 }
 
 impl Model for ServerLinks {
@@ -46,7 +43,7 @@ impl Model for ServerLinks {
     } };
 
     ghost invariant = { λ w. Fits w.server.book.past w.links.items
-        × AreNames w.names w.links.items };
+        × AreNames w.server.names w.links.items };
 }
 
 impl ServerLinks {
@@ -59,28 +56,24 @@ impl ServerLinks {
             alloc,
             server: Server::new(alloc, limits)?,
             links: Vec::new(alloc),
-            names: Names::new(alloc),
         })
     }
 
-    /// Makes a link, which the server admits.
+    /// Makes a link, which the server admits, unless a SHUTDOWN stopped it.
     pub fn raw(&mut self, name: &Octets, lines: &mut Lines) -> Result<(), WorldFault>
         ensures { StepGives self.old (Raw name.now) lines.old result self.new lines.new }
     {
         if self.place_of(name).is_some() {
             return Err(WorldFault::NameTaken);
         }
+        if self.server.is_stopped() {
+            return Err(WorldFault::Refused { number: STOPPED });
+        }
         let id = self.links.len() as u64 + 1;
         let line = Line::Admit(self.server.next_entry()?, name.copy()?, id);
         let link = Link::new(self.alloc, id, name.copy()?);
         self.links.reserve(1)?;
-        admit(
-            &mut self.server,
-            &mut self.names,
-            name.as_slice(),
-            line,
-            lines,
-        )?;
+        self.server.admit(name, line, lines)?;
         self.links.push_reserved(link);
         Ok(())
     }
@@ -164,7 +157,7 @@ impl ServerLinks {
     pub fn place_of(&self, name: &Octets) -> Option<usize>
         ensures { result ≡ place_of name.now self.now }
     {
-        self.names.place(name.as_slice())
+        self.server.place_of(name.as_slice())
     }
 
     /// The name of the link at this place.
@@ -241,32 +234,5 @@ impl ServerLinks {
             ≡ slice_get (runs_of (at + 1) self.now.past) number) }
     {
         self.server.run_words(at, number)
-    }
-}
-
-/// The turn that admits the connection of a link of this name, which is new. Where it is refused,
-/// the names are as they were.
-fn admit(
-    server: &mut Server,
-    names: &mut Names,
-    name: &[u8],
-    line: Line,
-    lines: &mut Lines,
-) -> Result<BookReply, WorldFault>
-    requires { position (λ n. bytes_eq n name.now) names.old ≡ None }
-    ensures limits { server.new.book.limits ≡ server.old.book.limits }
-    ensures clock { server.new.clock ≡ server.old.clock }
-    ensures gives { TurnGives server.old.book.limits server.old.book.past call.Admit line lines.old
-        result server.new.book.past lines.new }
-    ensures ok { OnOk result (names.new ≡ names.old ++ name.now ∷ []) }
-    ensures err { OnErr result (names.new ≡ names.old) }
-{
-    names.add(name)?;
-    match server.turn(BookCall::Admit, line, lines) {
-        Ok(reply) => Ok(reply),
-        Err(fault) => {
-            names.remove_last();
-            Err(fault)
-        }
     }
 }

@@ -20,8 +20,8 @@ use Rattle.serial_model.specs.declared.history.BookReply.{BookReply}
 use Rattle.serial_model.specs.declared.history.BookReply.TheVariants.{Admitted, Ran, Ticked, Quiet}
 use Rattle.serial_model.specs.declared.history.BookReply.TheVariants.{Bytes, Closed, Refused}
 use Rattle.serial_model.specs.declared.history.BookRefusal.{BookRefusal}
-use Rattle.serial_model.specs.declared.history.BookRefusal.TheVariants.{Gone, NoMemory}
-use Rattle.serial_model.specs.History.{is_admitted, has_ended}
+use Rattle.serial_model.specs.declared.history.BookRefusal.TheVariants.{Gone, NoMemory, Stopped}
+use Rattle.serial_model.specs.History.{is_admitted, is_stopped, has_ended}
 use Rattle.seat_turns.specs.Own.{past_of, IsWithin, Within, Grows}
 use Rattle.seat_turns.specs.Turns.{Plays}
 use Rattle.resp_value.specs.declared.octets.Octets.{Octets}
@@ -35,7 +35,7 @@ use Rattle.shared_book.specs.Batches.{refusal_by, ran_in, taken_in, IsOfBatch, a
 use Rattle.seat_turns.proofs.Owning.{within_begins}
 use Rattle.seat_turns.proofs.Turning.{plays, begins_trans, grows_worn}
 use Rattle.seat_turns.proofs.Growing.{grows_none, grows_then, grows_past}
-use Rattle.shared_book.proofs.Histories.{begins_lift, admitted_more, ended_more}
+use Rattle.shared_book.proofs.Histories.{begins_lift, admitted_more, ended_more, stopped_more}
 use Rattle.shared_book.proofs.Did.{named}
 use Rattle.shared_book.proofs.Outcomes.{entries_long, refuses, never, runs, run_number, gives}
 use Rattle.shared_book.proofs.Outcomes.{rests}
@@ -56,6 +56,10 @@ cause_more refusal.Dropped id k l g h =
     (past_of k) (past_of l) (grows_past k l [] g) h)
 cause_more refusal.NoMemory id k l g h = h
 cause_more refusal.Worn id k l g h = omega (arith, h, g.tickets)
+cause_more refusal.Stopped id k l g h =
+    subst (λ z. is_stopped z (past_of l) ≡ true) (sym (ap limits_in g.setup))
+    (begins_lift (λ past. is_stopped (limits_of k) past ≡ true) (stopped_more (limits_of k))
+    (past_of k) (past_of l) (grows_past k l [] g) h)
 
 grows_into : (a b c : Place) → Grows a b [] → Grows b c [] → Grows a c []
 grows_into a b c p q = grows_then a b c [] [] p q
@@ -120,6 +124,7 @@ module _ (id now : ℕ) where
       → Refuses (refusal_by r) id k l
   refused call (Gone n) k l at on p = refuses k l call (Gone n) id (at, on) p
   refused call NoMemory k l at on p = refuses k l call NoMemory id tt p
+  refused call Stopped k l at on p = refuses k l call Stopped id tt p
 
   -- what was taken of a Quiet adds none, and no Run is Quiet
   passed : (call : BookCall) (reply : BookReply) (k l : Place) → named call ≡ id

@@ -11,11 +11,12 @@ use Rattle.serial_model.specs.declared.history.BookCall.TheVariants.{Admit, Run,
 use Rattle.serial_model.specs.declared.history.BookReply.{BookReply}
 use Rattle.serial_model.specs.declared.history.BookReply.TheVariants.{Admitted, Ran, Ticked, Quiet}
 use Rattle.serial_model.specs.declared.history.BookReply.TheVariants.{Bytes, Closed, Refused}
-use Rattle.serial_model.specs.declared.history.BookRefusal.TheVariants.{Gone, NoMemory}
+use Rattle.serial_model.specs.declared.history.BookRefusal.TheVariants.{Gone, NoMemory, Stopped}
 use Rattle.serial_model.specs.History.{admitted, expired, latest, unsent, runs_on}
-use Rattle.serial_model.specs.History.{reads_on, gives_on}
+use Rattle.serial_model.specs.History.{reads_on, gives_on, is_stopped}
 use Rattle.serial_model.specs.Steps.{Turn as Stepped, book_step, BookStep, gone}
-use Rattle.serial_model.specs.Steps.{running, taking, ticking, closing}
+use Rattle.serial_model.specs.Steps.{admitting, running, taking, ticking, tick_at, closing}
+use Rattle.serial_model.specs.Steps.{stopped}
 use Rattle.serial_model.proofs.Turning.{by_step}
 use Rattle.shared_book.specs.Turns.{TurnStep}
 use Rattle.shared_book.proofs.Histories.{no_runs_ungiven, no_runs_unread}
@@ -30,12 +31,15 @@ abbrev pub comes : BookCall → BookReply → Bool
 comes Admit (Admitted n id) = true
 comes Admit (Refused (Gone i)) = false
 comes (Run id words now) (Ran n) = true
+comes (Run id words now) (Refused Stopped) = false
 comes (Tick now) (Ticked n) = true
 comes (Tick now) Quiet = true
 comes (Tick now) (Refused (Gone i)) = false
 comes (Take id most) (Bytes n bytes) = true
 comes (Take id most) Quiet = true
+comes (Take id most) (Refused Stopped) = false
 comes (Close id) (Closed n) = true
+comes (Close id) (Refused Stopped) = false
 comes call (Refused r) = true
 comes call reply = false
 
@@ -65,6 +69,7 @@ module _ (l : Limits) (past : List Entry) where
   Says (Closed n) (Close id) e = e ≡ Some (entry.Close id)
   Says (Refused (Gone i)) call e = (e ≡ None) × (runs_on l past (named call) ≡ false)
   Says (Refused NoMemory) call e = e ≡ None
+  Says (Refused Stopped) call e = (e ≡ None) × (is_stopped l past ≡ true)
   Says reply call e = ⊥
 
   abbrev pub Said : BookCall → BookReply → List Entry → Type 0
@@ -93,13 +98,19 @@ module _ (l : Limits) (past : List Entry) where
 
   step_says : (call : BookCall) → At call (book_step l past call)
   unfolding book_step
-  step_says Admit = (refl, Some (entry.Admit (admitted past + 1)), (refl, refl), refl)
+  step_says Admit =
+      by_test (At Admit) (is_stopped l past) (stopped past) (admitting past)
+      (λ over. (refl, None, (refl, over), refl))
+      (λ on. (refl, Some (entry.Admit (admitted past + 1)), (refl, refl), refl))
   step_says (Run id words now) =
       by_test (At (Run id words now)) (runs_on l past id)
       (running past id words now) (gone past id)
       (λ on. (refl, Some (entry.Run id words (max now (latest past))), (refl, refl), refl))
       (λ off. (refl, None, (refl, off), refl))
-  step_says (Tick now) = ticking_says now (expired l past (max now (latest past))) refl
+  step_says (Tick now) =
+      by_test (At (Tick now)) (is_stopped l past) (stopped past)
+      (tick_at l past (max now (latest past))) (λ over. (refl, None, (refl, over), refl))
+      (λ on. ticking_says now (expired l past (max now (latest past))) refl)
   step_says (Take id most) =
       by_test (At (Take id most)) (gives_on l past id)
       (taking past id most (take most (unsent l id past))) (gone past id)

@@ -2,16 +2,16 @@
 use Rattle.std.proofs.Common.{◌≡◌, ◌≤◌, ◌+◌, ℕ, List, [], ◌∷◌, ◌++◌, length, Bool, true, false}
 use Rattle.std.proofs.Common.{cond, refl, ap, ◌∙◌, subst, arith, length-append, eq-eqb}
 use Rattle.std.proofs.Common.{◌<◌, drop}
-use Rattle.std.specs.Prelude.{◌&&◌, not}
+use Rattle.std.specs.Prelude.{◌&&◌, ◌||◌, not}
 use Rattle.std.proofs.lemmas.Bool.Decides.{nat_tests}
 use Rattle.turn_lock.specs.History.{IsPrefix}
 use Rattle.serial_model.specs.declared.history.Limits.{Limits}
 use Rattle.serial_model.specs.declared.history.Entry.{Entry}
-use Rattle.serial_model.specs.declared.history.Entry.TheVariants.{Admit, Close}
+use Rattle.serial_model.specs.declared.history.Entry.TheVariants.{Admit, Run, Tick, Take, Close}
 use Rattle.serial_model.specs.declared.standing.Standing.{Standing}
 use Rattle.serial_model.specs.State.{is_live, keeps_bytes, may_take}
 use Rattle.serial_model.specs.History.{admitted, is_admitted, gives_on, has_ended, reads_on}
-use Rattle.serial_model.specs.History.{runs_on, state, stream, taken, unsent}
+use Rattle.serial_model.specs.History.{is_stopped, runs_on, state, stream, taken, unsent}
 use Rattle.serial_model.proofs.Standings as standings
 use Rattle.serial_model.proofs.Streams.{stream_more}
 
@@ -39,6 +39,20 @@ admitted_more id e past h = grind (arith, both, admitted_one, nat_tests)
 pub admitted_now : (past : List Entry) → is_admitted (Admit (admitted past + 1) ∷ past)
     (admitted past + 1) ≡ true
 admitted_now past = grind (arith, nat_tests)
+
+or_true : (a b : Bool) → a ≡ true → (a || b) ≡ true
+or_true a b h = ap (λ x. x || b) h
+
+module _ (l : Limits) where
+  -- a server that was stopped stays so
+  pub stopped_more : (e : Entry) (past : List Entry) → is_stopped l past ≡ true
+      → is_stopped l (e ∷ past) ≡ true
+  unfolding state
+  stopped_more (Admit id) past h = h
+  stopped_more (Run id words moment) past h = or_true (is_stopped l past) _ h
+  stopped_more (Tick moment) past h = or_true (is_stopped l past) false h
+  stopped_more (Take id most) past h = h
+  stopped_more (Close id) past h = h
 
 module _ (l : Limits) (c : ℕ) where
   pub ended_more : (e : Entry) (past : List Entry) → has_ended l c past ≡ true

@@ -16,8 +16,9 @@ use Rattle.serial_model.specs.declared.history.BookReply.{BookReply}
 use Rattle.serial_model.specs.declared.history.BookReply.TheVariants.{Admitted, Ran, Ticked, Quiet}
 use Rattle.serial_model.specs.declared.history.BookReply.TheVariants.{Bytes, Refused}
 use Rattle.serial_model.specs.declared.history.BookRefusal.{BookRefusal}
-use Rattle.serial_model.specs.declared.history.BookRefusal.TheVariants.{Gone, NoMemory}
-use Rattle.serial_model.specs.History.{is_admitted, expired, gives_on, has_ended, latest, unsent}
+use Rattle.serial_model.specs.declared.history.BookRefusal.TheVariants.{Gone, NoMemory, Stopped}
+use Rattle.serial_model.specs.History.{is_admitted, expired, gives_on, has_ended, is_stopped}
+use Rattle.serial_model.specs.History.{latest, unsent}
 use Rattle.serial_model.specs.Steps.{BookStep}
 use Rattle.serial_model.proofs.Standings.{reads_over}
 use Rattle.shared_book.specs.Turns.{Place, TurnStep, limits_of, limits_in, Refuses, Admits, Runs}
@@ -84,6 +85,13 @@ module _ (before after : Place) (call : BookCall) where
         cause_is = seen_after p none (λ l x. has_ended l id x ≡ true)
             (ended_or (limits_of before) id p.past (now_admitted p id of.1) (rw of.0 at s.1));
       }
+  refuses Stopped id of p =
+      let (known, e, s, is) = said p in
+      let none = is ∙ ap (past_after p.past) s.0 in
+      record {
+        grows = stays p none;
+        cause_is = seen_after p none (λ l x. is_stopped l x ≡ true) s.1;
+      }
 
   pub refused_worn : (id : ℕ) → Grows before after [] → LAST_TICKET ≤ after.tickets
       → Refuses refusal.Worn id before after
@@ -99,9 +107,17 @@ module _ (before after : Place) where
       → Refuses refusal.NoMemory 0 before after
   admit_memory p = refuses before after Admit NoMemory 0 tt p
 
+  pub admit_stopped : Plays TurnStep Admit (Refused Stopped) before after
+      → Refuses refusal.Stopped 0 before after
+  admit_stopped p = refuses before after Admit Stopped 0 tt p
+
   pub tick_memory : (now : ℕ) → Plays TurnStep (Tick now) (Refused NoMemory) before after
       → Refuses refusal.NoMemory 0 before after
   tick_memory now p = refuses before after (Tick now) NoMemory 0 tt p
+
+  pub tick_stopped : (now : ℕ) → Plays TurnStep (Tick now) (Refused Stopped) before after
+      → Refuses refusal.Stopped 0 before after
+  tick_stopped now p = refuses before after (Tick now) Stopped 0 tt p
 
   pub run_gone : (id : ℕ) (words : List (List ℕ)) (now n : ℕ)
       → is_admitted (past_of before) id ≡ true
@@ -217,12 +233,12 @@ module _ (before after : Place) where
       → Closes id before after
   close_worn id g worn = record { close = None; grows = g; over = inr worn }
 
-pub ruleset admitting = (admits, admit_memory, refused_worn, never)
+pub ruleset admitting = (admits, admit_memory, admit_stopped, refused_worn, never)
 
 pub ruleset running = (runs, run_number, run_gone, run_memory, refused_worn, never)
 
 pub ruleset taking = (take_gone, take_memory, refused_worn, never)
 
-pub ruleset ticking = (ticks, ticks_not, tick_memory, refused_worn, never)
+pub ruleset ticking = (ticks, ticks_not, tick_memory, tick_stopped, refused_worn, never)
 
 pub ruleset closing = (closes, close_worn)

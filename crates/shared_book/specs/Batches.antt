@@ -88,6 +88,7 @@ pub record RunsFirst (id now count : ℕ) (requests : List (List (List ℕ))) (r
 abbrev pub refusal_by : BookRefusal → Refusal
 refusal_by (because.Gone id) = refusal.Dropped
 refusal_by because.NoMemory = refusal.NoMemory
+refusal_by because.Stopped = refusal.Stopped
 
 -- how many Runs the replies tell of, up to the first that is none
 abbrev pub ran_in : List BookReply → ℕ

@@ -11,7 +11,7 @@ use Rattle.serial_model.specs.declared.history.Entry.TheVariants as entry
 use Rattle.serial_model.specs.declared.history.BookCall.{BookCall}
 use Rattle.serial_model.specs.declared.history.BookReply.{BookReply}
 use Rattle.serial_model.specs.History.{admitted, expired, gives_on, has_ended, latest, reads_on}
-use Rattle.serial_model.specs.History.{unsent}
+use Rattle.serial_model.specs.History.{is_stopped, unsent}
 use Rattle.serial_model.specs.Steps.{BookStep}
 use Rattle.seat_turns.specs.Own.{past_of, Grows}
 use Rattle.shared_book.specs.declared.turns.Refusal.{Refusal}
@@ -47,6 +47,7 @@ abbrev pub IsCause : Refusal → ℕ → Place → Type 0
 IsCause refusal.Dropped id k = has_ended (limits_of k) id (past_of k) ≡ true
 IsCause refusal.NoMemory id k = ⊤
 IsCause refusal.Worn id k = LAST_TICKET ≤ k.tickets
+IsCause refusal.Stopped id k = is_stopped (limits_of k) (past_of k) ≡ true
 
 -- a turn was not taken
 pub record Refuses (cause : Refusal) (id : ℕ) (before after : Place) : Type 0 where
@@ -58,6 +59,7 @@ abbrev pub IsServerCause : Refusal → Type 0
 IsServerCause refusal.Dropped = ⊥
 IsServerCause refusal.NoMemory = ⊤
 IsServerCause refusal.Worn = ⊤
+IsServerCause refusal.Stopped = ⊤
 
 pub record Admits (id : ℕ) (before after : Place) : Type 0 where
   pub past : List Entry

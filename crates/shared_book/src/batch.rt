@@ -30,6 +30,7 @@ fn refusal_by(refusal: BookRefusal) -> Refusal
     match refusal {
         BookRefusal::Gone { .. } => Refusal::Dropped,
         BookRefusal::NoMemory => Refusal::NoMemory,
+        BookRefusal::Stopped => Refusal::Stopped,
     }
 }
 

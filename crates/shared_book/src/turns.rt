@@ -23,12 +23,14 @@ pub enum Refusal {
     NoMemory,
     /// No ticket of the lock is left.
     Worn,
+    /// A SHUTDOWN ran.
+    Stopped,
 }
 
 /// The most bytes of one Take.
 pub const MOST: u64 = 65_536;
 
-/// Admits a connection; its id is at least 1.
+/// Admits a connection; its id is at least 1. Behind a SHUTDOWN none is admitted.
 #[tactic(auto, using(crate::proofs::Outcomes::admitting))]
 pub fn admit<R: Wait>(
     rt: &R,
@@ -43,6 +45,7 @@ pub fn admit<R: Wait>(
     match play(rt, lock, seat, BookCall::Admit) {
         Ok(BookReply::Admitted { id, .. }) => Ok(id),
         Ok(BookReply::Refused(BookRefusal::NoMemory)) => Err(Refusal::NoMemory),
+        Ok(BookReply::Refused(BookRefusal::Stopped)) => Err(Refusal::Stopped),
         Ok(BookReply::Ran { .. }) => unreachable!(),
         Ok(BookReply::Quiet) => unreachable!(),
         Ok(BookReply::Bytes { .. }) => unreachable!(),
@@ -79,6 +82,7 @@ pub fn run<R: Wait>(
         Ok(BookReply::Bytes { .. }) => unreachable!(),
         Ok(BookReply::Closed { .. }) => unreachable!(),
         Ok(BookReply::Ticked { .. }) => unreachable!(),
+        Ok(BookReply::Refused(BookRefusal::Stopped)) => unreachable!(),
         Err(_) => Err(Refusal::Worn),
     }
 }
@@ -106,12 +110,13 @@ pub fn take<R: Wait>(
         Ok(BookReply::Ran { .. }) => unreachable!(),
         Ok(BookReply::Closed { .. }) => unreachable!(),
         Ok(BookReply::Ticked { .. }) => unreachable!(),
+        Ok(BookReply::Refused(BookRefusal::Stopped)) => unreachable!(),
         Err(_) => Err(Refusal::Worn),
     }
 }
 
 /// Takes out the keys that are due at this moment, and tells the connections that remember them;
-/// there may be none.
+/// there may be none. Behind a SHUTDOWN it is refused.
 #[tactic(auto, using(crate::proofs::Outcomes::ticking))]
 pub fn tick<R: Wait>(
     rt: &R,
@@ -128,6 +133,7 @@ pub fn tick<R: Wait>(
         Ok(BookReply::Ticked { .. }) => Ok(()),
         Ok(BookReply::Quiet) => Ok(()),
         Ok(BookReply::Refused(BookRefusal::NoMemory)) => Err(Refusal::NoMemory),
+        Ok(BookReply::Refused(BookRefusal::Stopped)) => Err(Refusal::Stopped),
         Ok(BookReply::Admitted { .. }) => unreachable!(),
         Ok(BookReply::Ran { .. }) => unreachable!(),
         Ok(BookReply::Bytes { .. }) => unreachable!(),

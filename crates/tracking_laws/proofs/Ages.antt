@@ -1,6 +1,6 @@
 -- The rows of every table stand in the order in which their keys came to be remembered.
 use Rattle.std.proofs.Common.{◌≡◌, ◌+◌, ◌-◌, ◌≤◌, ℕ, zero, suc, List, [], ◌∷◌, Bool, true, false}
-use Rattle.std.proofs.Common.{cond, length, map, take, drop, refl, arith, subst, sym}
+use Rattle.std.proofs.Common.{length, map, take, drop, refl, arith, subst, sym}
 use Rattle.std.specs.Prelude.{filter, not}
 use Rattle.std.specs.Str.{bytes_eq}
 use Rattle.std.proofs.lemmas.Bool.{or_left, or_right, or_from}
@@ -14,14 +14,14 @@ use Rattle.serial_model.specs.declared.history.Limits.{Limits}
 use Rattle.serial_model.specs.declared.history.Entry.{Entry}
 use Rattle.serial_model.specs.declared.history.Entry.TheVariants.{Admit, Run, Tick, Take, Close}
 use Rattle.serial_model.specs.Each.{AllIn}
+use Rattle.serial_model.specs.State.{for_each}
 use Rattle.serial_model.specs.Modes.{Memory, Remembers, Registers, Forgets}
 use Rattle.serial_model.specs.Tracking.{without_signalled, remembering}
 use Rattle.serial_model.specs.History.{state, table, table_then, table_grown, expired, signals}
 use Rattle.serial_model.specs.History.{made}
-use Rattle.serial_model.proofs.StateSteps.{tick_table}
+use Rattle.serial_model.proofs.StateSteps.{run_ends, tick_ends, tick_table}
 use Rattle.serial_model.proofs.Each.{all_in, in_filter, in_drop}
 use Rattle.tracking_laws.specs.Drops.{is_remembered, rows_at_read, since}
-use Rattle.tracking_laws.proofs.Quits.{quits_here, run_left}
 
 itself : (key : List ℕ) → bytes_eq key key ≡ true
 itself key = (bytes_eq-Decides key key).1 refl
@@ -56,10 +56,11 @@ module _ (at : List ℕ → ℕ) where
       → AreInOrder (without_connection id rows)
   order_without id rows h = order_filter is_held (map (freed_of id) rows) (order_freed id rows h)
 
-  order_unless : (b : Bool) (id : ℕ) (rows : List Held) → AreInOrder rows
-      → AreInOrder (cond b (without_connection id rows) rows)
-  order_unless true id rows h = order_without id rows h
-  order_unless false id rows h = h
+  order_left : (ids : List ℕ) (rows : List Held) → AreInOrder rows
+      → AreInOrder (for_each without_connection ids rows)
+  order_left [] rows h = h
+  order_left (id ∷ ids) rows h =
+      order_left ids (without_connection id rows) (order_without id rows h)
 
   order_without_keys : (keys : List (List ℕ)) (rows : List Held) → AreInOrder rows
       → AreInOrder (without_keys keys rows)
@@ -189,15 +190,15 @@ module _ (l : Limits) where
   in_order (Run id words moment ∷ past) =
       let grown = table_grown l past id words moment in
       let at = since l (Run id words moment ∷ past) in
-      subst (AreInOrder at) (sym (run_left l past id words moment))
-      (order_unless at (quits_here l past id words moment) id
+      order_left at (run_ends l id words moment (state l past))
       (drop (length grown - l.table_max) grown)
       (order_drop at (length grown - l.table_max) grown
-      (grown_from past id words moment (in_order past))))
+      (grown_from past id words moment (in_order past)))
   in_order (Tick moment ∷ past) =
       renewed (Tick moment) past
       (subst (AreInOrder (since l past)) (sym (tick_table l past moment))
-      (order_without_keys (since l past) (expired l past moment) (table l past) (in_order past)))
+      (order_left (since l past) (tick_ends l moment (state l past)) (table_then l past moment)
+      (order_without_keys (since l past) (expired l past moment) (table l past) (in_order past))))
   in_order (Take id max ∷ past) = renewed (Take id max) past (in_order past)
   in_order (Close id ∷ past) =
       renewed (Close id) past (order_without (since l past) id (table l past) (in_order past))

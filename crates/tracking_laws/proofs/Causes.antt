@@ -3,7 +3,7 @@ use Rattle.std.proofs.Common.{◌≡◌, ◌∙◌, ◌-◌, ℕ, List, [], ◌�
 use Rattle.std.proofs.Common.{length, drop, inl, inr, subst, sym, ap, refl, arith}
 use Rattle.std.specs.Prelude.{◌==◌, ◌&&◌, ◌||◌, not}
 use Rattle.std.proofs.lemmas.Bool.{and_parts, and_from, both_ways, cases_Bool, eqb-true}
-use Rattle.std.proofs.lemmas.Bool.{or_left, or_parts}
+use Rattle.std.proofs.lemmas.Bool.{or_left, or_parts, or_right}
 use Rattle.std.proofs.lemmas.Bool.Decides.{nat_tests}
 use Rattle.command_words.specs.declared.command.Command.{Command}
 use Rattle.command_words.specs.Queries.{read}
@@ -17,11 +17,12 @@ use Rattle.serial_model.specs.declared.history.Entry.{Entry}
 use Rattle.serial_model.specs.declared.history.Entry.TheVariants.{Admit, Run, Tick, Take, Close}
 use Rattle.serial_model.specs.Modes.{Memory, Remembers, Forgets}
 use Rattle.serial_model.specs.Tracking.{has_id, without_signalled, remembering}
+use Rattle.serial_model.specs.EntryEffects.{drops_one}
 use Rattle.serial_model.specs.History.{state, table, table_then, table_grown, mode, made}
 use Rattle.serial_model.specs.History.{IsLegal, served_reading, has_ended, runner, expired, is_quit}
 use Rattle.serial_model.specs.Modes.{ending_of, is_quitting}
 use Rattle.serial_model.specs.History as history
-use Rattle.serial_model.specs.Laws.{is_among, is_forgets, remembers, signals_key, drops_key}
+use Rattle.serial_model.specs.Laws.{is_among, is_forgets, signals_key, drops_key}
 use Rattle.serial_model.specs.Laws.{is_told, is_due}
 use Rattle.serial_model.proofs.KeyHolders.{keys_apart, signalled_apart, remembering_keeps}
 use Rattle.serial_model.proofs.KeyHolders.{dropped_or_kept, without_other}
@@ -31,12 +32,12 @@ use Rattle.serial_model.proofs.Trackers.{Tracks, all_track}
 use Rattle.serial_model.proofs.ToldLaws.{holder_of}
 use Rattle.serial_model.proofs.OwedLaws.{grown_is_owed}
 use Rattle.serial_model.proofs.ModeSteps.{mode_own}
-use Rattle.serial_model.proofs.StateSteps.{run_table_stays, tick_table}
+use Rattle.serial_model.proofs.StateSteps.{run_dropped, run_ends}
 use Rattle.tracking_laws.specs.Told.{keeps_reads, keys_read, reads_key}
 use Rattle.tracking_laws.specs.Causes.{RememberedIsTracked, LeavesForCause, EachReadIsOwedOrTold}
-use Rattle.tracking_laws.specs.Causes.{EachReadIsRemembered}
+use Rattle.tracking_laws.specs.Causes.{EachReadIsRemembered, ends}
 use Rattle.tracking_laws.proofs.Holders.{holds_with_keys}
-use Rattle.tracking_laws.proofs.Quits.{reads_no_quit, run_gone}
+use Rattle.tracking_laws.proofs.Ends.{reads_no_quit, run_gone, run_holds, tick_holds}
 use Rattle.tracking_laws.proofs.Remembering.{made_reads, made_stops}
 
 -- ---- a connection that remembers a key is one that may
@@ -81,13 +82,13 @@ own_stops l past c id words moment h =
 right : (x y : Bool) → (x || y) ≡ true → x ≡ false → y ≡ true
 right x y e f = grind arith
 
--- where it does not forget and does not quit, the key is signalled or dropped
+-- where it does not forget and does not end, the key is signalled or dropped
 run_leaves : (l : Limits) (past : List Entry) (c id : ℕ) (words : List (List ℕ)) (moment : ℕ)
     (key : List ℕ)
     → has_id c (holders_of key (table l past)) ≡ true
     → has_id c (holders_of key (table l (Run id words moment ∷ past))) ≡ false
     → ((id == c) && is_forgets (made l past id words moment).memory) ≡ false
-    → ((id == c) && is_quit words) ≡ false
+    → ends l (Run id words moment) past c ≡ false
     → (signals_key l (Run id words moment) past key || drops_key l (Run id words moment) past key)
     ≡ true
 run_leaves l past c id words moment key told gone stays goes_on =
@@ -100,29 +101,32 @@ run_leaves l past c id words moment key told gone stays goes_on =
       | inr e ↦
           let p = or_parts signalled dropped e in
           let q = or_parts (is_among (expired l past moment) key) (signals sig key) p.0 in
-          absurd (both_ways _ (run_gone l past id words moment c key goes_on gone)
+          absurd (both_ways _ (run_gone l past c key id words moment goes_on gone)
           (right _ _ (dropped_or_kept c key (length grown - l.table_max) grown
           (remembering_keeps c key id (made l past id words moment).memory _ stays
           (ap (has_id c) (signalled_apart c key sig (table_then l past moment) q.1
           ∙ keys_apart c key (expired l past moment) (table l past) q.0) ∙ told))) p.1))
     ]
 
-by_tracking : (signalled tracks quits dropped : Bool)
-    → (tracks ≡ true → quits ≡ false → (signalled || dropped) ≡ true)
-    → (signalled || not tracks || quits || dropped) ≡ true
-by_tracking signalled tracks quits dropped h = grind arith
+by_tracking : (signalled tracks ends dropped : Bool)
+    → (tracks ≡ true → ends ≡ false → (signalled || dropped) ≡ true)
+    → (signalled || not tracks || ends || dropped) ≡ true
+by_tracking signalled tracks ends dropped h = grind arith
 
 tick_leaves : (l : Limits) (past : List Entry) (c moment : ℕ) (key : List ℕ)
     → has_id c (holders_of key (table l past)) ≡ true
     → has_id c (holders_of key (table l (Tick moment ∷ past))) ≡ false
-    → is_among (expired l past moment) key ≡ true
+    → (is_among (expired l past moment) key || drops_one l (Tick moment) past c) ≡ true
 tick_leaves l past c moment key told gone =
     elim (cases_Bool (is_among (expired l past moment) key)) [
-      | inl e ↦ e
-      | inr e ↦ absurd (both_ways _
-          (ap (λ rows. has_id c (holders_of key rows)) (sym (tick_table l past moment)) ∙ gone)
+      | inl e ↦ or_left _ _ e
+      | inr e ↦ or_right _ _ (dropped _ _
+          (sym (tick_holds l past c key moment) ∙ gone)
           (ap (has_id c) (keys_apart c key (expired l past moment) (table l past) e) ∙ told))
     ]
+  where
+    dropped : (d held : Bool) → (not d && held) ≡ false → held ≡ true → d ≡ true
+    dropped d held e f = grind arith
 
 close_leaves : (c id : ℕ) (key : List ℕ) (rows : List Held)
     → has_id c (holders_of key rows) ≡ true
@@ -132,8 +136,8 @@ close_leaves c id key rows told gone = elim (cases_Bool (id == c)) [
   | inr e ↦ absurd (both_ways _ gone (without_other c key id rows e told))
 ]
 
-first_of : (a b d : Bool) → a ≡ true → (((a || b) || d) || false) ≡ true
-first_of a b d e = grind arith
+either_of : (a b d : Bool) → (a || d) ≡ true → (((a || b) || d) || false) ≡ true
+either_of a b d e = grind arith
 
 third_of : (a b d : Bool) → d ≡ true → (((a || b) || d) || false) ≡ true
 third_of a b d e = grind arith
@@ -144,18 +148,19 @@ unfolding state
 leaves_for_cause l (Admit id) past c key told gone = absurd (both_ways _ gone told)
 leaves_for_cause l (Run id words moment) past c key told gone =
     by_tracking (signals_key l (Run id words moment) past key)
-    (is_on (mode l c (Run id words moment ∷ past)).tracking) ((id == c) && is_quit words)
+    (is_on (mode l c (Run id words moment ∷ past)).tracking) (ends l (Run id words moment) past c)
     (drops_key l (Run id words moment) past key)
     (λ tracks goes_on. run_leaves l past c id words moment key told gone
     (own_stops l past c id words moment tracks) goes_on)
 leaves_for_cause l (Tick moment) past c key told gone =
-    first_of (is_among (expired l past moment) key)
-    (not (is_on (mode l c (Tick moment ∷ past)).tracking)) false
+    either_of (is_among (expired l past moment) key)
+    (not (is_on (mode l c (Tick moment ∷ past)).tracking)) (drops_one l (Tick moment) past c)
     (tick_leaves l past c moment key told gone)
 leaves_for_cause l (Take id max) past c key told gone = absurd (both_ways _ gone told)
 leaves_for_cause l (Close id) past c key told gone =
-    third_of false (not (is_on (mode l c (Close id ∷ past)).tracking)) ((id == c) || false)
-    (or_left _ _ (close_leaves c id key (table l past) told gone))
+    third_of false (not (is_on (mode l c (Close id ∷ past)).tracking))
+    (((id == c) || false) || false)
+    (or_left _ _ (or_left _ _ (close_leaves c id key (table l past) told gone)))
 
 -- ---- each read is owed or told
 
@@ -222,9 +227,10 @@ each_read_is_owed_or_told l (Close id) past legal c key h = absurd (let no : ⊥
 
 -- ---- and remembered
 
-kept_or_dropped : (kept dropped grown : Bool) → grown ≡ true → (dropped || kept) ≡ true
-    → (kept || (dropped && grown)) ≡ true
-kept_or_dropped kept dropped grown held h = grind arith
+kept_or_dropped : (new ends mine quit drops kept dropped grown : Bool) → new ≡ (not ends && kept)
+    → drops ≡ (ends && not (mine && quit)) → quit ≡ false → grown ≡ true
+    → (dropped || kept) ≡ true → (new || ((dropped || drops) && grown)) ≡ true
+kept_or_dropped new ends mine quit drops kept dropped grown is by on held h = grind arith
 
 pub each_read_is_remembered : (l : Limits) (entry : Entry) (past : List Entry)
     → EachReadIsRemembered l entry past
@@ -237,12 +243,10 @@ each_read_is_remembered l (Run id words m) past c key h =
     (run_remembers l id m words past p.0 key p.1 p.3 p.4) in
     let goes_on : is_quit words ≡ false
     = ap (λ r. is_quitting (ending_of r)) p.1 ∙ reads_no_quit p.0 key p.4 in
-    subst (λ rows. (remembers rows c key
-    || (drops_key l (Run id words m) past key && remembers grown c key)) ≡ true)
-    (sym (run_table_stays l past id m words goes_on))
-    (kept_or_dropped (has_id c (holders_of key (drop n grown)))
-    (drops_key l (Run id words m) past key) (has_id c (holders_of key grown)) held
-    (dropped_or_kept c key n grown held))
+    kept_or_dropped _ (has_id c (run_ends l id words m (state l past))) (id == c) (is_quit words) _
+    (has_id c (holders_of key (drop n grown))) (drops_key l (Run id words m) past key)
+    (has_id c (holders_of key grown)) (run_holds l past c key id words m)
+    (run_dropped l past c id m words) goes_on held (dropped_or_kept c key n grown held)
 each_read_is_remembered l (Tick m) past c key h = absurd (let no : ⊥ = cc in no)
 each_read_is_remembered l (Take id max) past c key h = absurd (let no : ⊥ = cc in no)
 each_read_is_remembered l (Close id) past c key h = absurd (let no : ⊥ = cc in no)

@@ -15,9 +15,9 @@ use Rattle.tracking_laws.proofs.Sent.{only_answered, sent_is_told}
 
 module _ (l : Limits) where
   before : (entry : Entry) (past : List Entry) → IsLegal l (entry ∷ past) → IsLegal l past
-  before (Admit id) past h = h.1
+  before (Admit id) past h = h.2
   before (Run id words moment) past h = h.2
-  before (Tick moment) past h = h.2
+  before (Tick moment) past h = h.3
   before (Take id max) past h = h.2
   before (Close id) past h = h.1
 

@@ -1,5 +1,5 @@
 pub mod Holders
-pub mod Quits
+pub mod Ends
 pub mod Counts
 pub mod Invalidations
 pub mod Prefixes

@@ -1,5 +1,5 @@
 -- What an entry leaves and brings of who remembers a key.
-use Rattle.std.proofs.Common.{◌≡◌, ◌∙◌, ◌-◌, ℕ, List, [], Bool, true, false, cond, length}
+use Rattle.std.proofs.Common.{◌≡◌, ◌∙◌, ◌-◌, ℕ, List, [], ◌∷◌, Bool, true, false, cond, length}
 use Rattle.std.proofs.Common.{ap, sym, arith, refl}
 use Rattle.std.specs.Prelude.{◌==◌, ◌&&◌, ◌||◌, not}
 use Rattle.command_words.specs.declared.command.Signalled.{Signalled}
@@ -14,7 +14,7 @@ use Rattle.serial_model.specs.Modes.{Memory, Remembers, Registers, Forgets}
 use Rattle.serial_model.specs.Tracking.{remembering, without_signalled}
 use Rattle.serial_model.specs.History.{table, table_then, table_grown, expired, signals, mode}
 use Rattle.serial_model.specs.History.{state, served_reading, made, runner}
-use Rattle.serial_model.proofs.StateSteps.{tick_table}
+use Rattle.serial_model.specs.EntryEffects.{drops_one}
 use Rattle.command_words.specs.Laws as cause
 use Rattle.serial_model.specs.Laws.{is_among, remembers, drops_key}
 use Rattle.serial_model.specs.Tracking.{has_id}
@@ -24,7 +24,7 @@ use Rattle.serial_model.proofs.KeptTables.{is_table, is_table_then, is_table_gro
 use Rattle.serial_model.proofs.KeptTables.{table_without_signalled}
 use Rattle.tracking_laws.proofs.Holders.{holds_with_keys, holds_without_keys, holds_freed}
 use Rattle.tracking_laws.proofs.Holders.{held_drop, none_behind}
-use Rattle.tracking_laws.proofs.Quits.{run_kept}
+use Rattle.tracking_laws.proofs.Ends.{run_kept, tick_holds}
 use Rattle.tracking_laws.proofs.Remembering.{made_memory, Brings}
 use Rattle.std.proofs.lemmas.Bool.{or_left, and_parts, both_ways, false_from_ne_true}
 
@@ -78,6 +78,13 @@ module _ (l : Limits) (past : List Entry) (c : ℕ) (key : List ℕ) where
       ≡ (not (is_among (expired l past moment) key) && remembers (table l past) c key)
   then_is moment = holds_without_keys c key (expired l past moment) (table l past)
 
+  -- and what it holds behind a Tick stood there
+  then_held : (moment : ℕ) → remembers (table l (Tick moment ∷ past)) c key ≡ true
+      → remembers (table_then l past moment) c key ≡ true
+  then_held moment h =
+      (and_parts (not (drops_one l (Tick moment) past c)) _
+      (sym (tick_holds l past c key moment) ∙ h)).1
+
   pub before_read : (id : ℕ) (words : List (List ℕ)) (moment : ℕ)
       → remembers (without_signalled (signals l past id words moment) (table_then l past moment))
       c key
@@ -100,14 +107,13 @@ remembered_is_read l (Admit id) past c key h = or_left _ _ h
 remembered_is_read l (Run id words moment) past c key h =
     let grown = table_grown l past id words moment in
     let here = held_drop c key (length grown - l.table_max) grown
-    (is_table_grown l past id words moment).ordered (run_kept l past id words moment c key h) in
+    (is_table_grown l past id words moment).ordered (run_kept l past c key id words moment h) in
     known _ _ _ _ _ (before_read l past c key id words moment)
     (grown_is l past c key id words moment here)
 remembered_is_read l (Tick moment) past c key h =
     or_left _ _ (and_parts (not (is_among (expired l past moment) key))
     (remembers (table l past) c key)
-    (sym (ap (λ rows. remembers rows c key) (tick_table l past moment)
-    ∙ then_is l past c key moment) ∙ h)).1
+    (sym (then_is l past c key moment) ∙ then_held l past c key moment h)).1
 remembered_is_read l (Take id max) past c key h = or_left _ _ h
 remembered_is_read l (Close id) past c key h =
     or_left _ _ (and_parts (not (id == c)) (remembers (table l past) c key)
@@ -131,7 +137,7 @@ gone_is_forgotten l (Run id words moment) past c key gone h =
     let grown = table_grown l past id words moment in
     let n = length grown - l.table_max in
     let ordered = (is_table_grown l past id words moment).ordered in
-    let stays = run_kept l past id words moment c key h in
+    let stays = run_kept l past c key id words moment h in
     let here = held_drop c key n grown ordered stays in
     let sig = signals l past id words moment in
     forgotten (drops_key l (Run id words moment) past key) _
@@ -142,7 +148,7 @@ gone_is_forgotten l (Run id words moment) past c key gone h =
     || drops_key l (Run id words moment) past key) (signals_as sig key)) ∙ gone)
     (before_read l past c key id words moment) (grown_is l past c key id words moment here)
 gone_is_forgotten l (Tick moment) past c key gone h =
-    let stays = ap (λ rows. remembers rows c key) (sym (tick_table l past moment)) ∙ h in
+    let stays = then_held l past c key moment h in
     grind (arith, then_is l past c key moment, stays)
 gone_is_forgotten l (Take id max) past c key gone h = absurd (let no : ⊥ = cc in no)
 gone_is_forgotten l (Close id) past c key gone h = absurd (let no : ⊥ = cc in no)

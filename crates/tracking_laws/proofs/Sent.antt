@@ -1,8 +1,10 @@
 -- What an entry sends a connection, counted.
-use Rattle.std.proofs.Common.{◌≡◌, ◌∙◌, inl, inr, ◌+◌, ◌++◌, ℕ, List, [], ◌∷◌, Bool, cond}
-use Rattle.std.proofs.Common.{refl, ap, sym, true, false, Option, None, Some, length}
-use Rattle.std.proofs.Common.{length-append, append-nil, arith, map}
-use Rattle.std.specs.Prelude.{◌==◌, ◌&&◌, not}
+use Rattle.std.proofs.Common.{◌≡◌, ◌∙◌, inl, inr, ◌+◌, ◌++◌, ℕ, zero, suc, List, [], ◌∷◌, Bool}
+use Rattle.std.proofs.Common.{cond, refl, ap, sym, true, false, Option, None, Some, length}
+use Rattle.std.proofs.Common.{length-append, arith, map}
+use Rattle.std.specs.Prelude.{◌==◌, ◌&&◌, ◌||◌, nat_le, nat_lt, not}
+use Rattle.std.proofs.lemmas.Bool.Decides.{nat_tests}
+use Rattle.std.proofs.lemmas.List.{map-append}
 use Rattle.std.proofs.lemmas.Bool.{both_ways, cases_Bool, eqb-true, false_from_ne_true}
 use Rattle.resp_value.specs.declared.value.Proto.{Proto}
 use Rattle.resp_value.specs.declared.value.Proto.TheVariants.{Two, Three}
@@ -19,23 +21,26 @@ use Rattle.serial_model.specs.declared.history.Limits.{Limits}
 use Rattle.serial_model.specs.declared.history.Entry.{Entry}
 use Rattle.serial_model.specs.declared.history.Entry.TheVariants.{Admit, Run, Tick, Take, Close}
 use Rattle.serial_model.specs.State.{State, is_on, is_live}
-use Rattle.serial_model.specs.Tracking.{Invalidation}
+use Rattle.serial_model.specs.Modes.{is_stopping}
+use Rattle.serial_model.specs.Tracking.{Invalidation, has_id, ids_where}
+use Rattle.serial_model.specs.EntryEffects.{drops_one}
+use Rattle.serial_model.specs.Laws.{closes_by, quits_by, stops}
 use Rattle.serial_model.specs.Actions.{Sending, End, Action, action_sends, all_messages, carried}
-use Rattle.serial_model.specs.Actions.{expiry_told, is_overgrown, later_told, messages, modes_then}
+use Rattle.serial_model.specs.Actions.{ends, expiry_told, is_ending, is_overgrown, later_told}
+use Rattle.serial_model.specs.Actions.{messages, modes_then, quits}
 use Rattle.serial_model.specs.Actions.{peer_at, replies, route_at, routed, to_one, way}
 use Rattle.serial_model.specs.History.{action_told, has_ended, invalidations, is_quit, ran, runs_on}
-use Rattle.serial_model.specs.History.{run_action, sent_to, state, tick_action}
+use Rattle.serial_model.specs.History.{mode, run_action, sent_to, state, tick_action}
 use Rattle.serial_model.proofs.Counts.{on_is}
 use Rattle.serial_model.proofs.DueLaws.{heard_all}
+use Rattle.serial_model.proofs.Ends.{ends_are, ids_test}
 use Rattle.serial_model.proofs.Fresh.{action_sends_off}
 use Rattle.serial_model.proofs.Quiet.{later_routed, tick_none}
-use Rattle.serial_model.proofs.ServedRows.{none_stops}
-use Rattle.serial_model.proofs.StateSteps.{none_by_tick}
+use Rattle.serial_model.proofs.ServedRows.{stop_in}
+use Rattle.serial_model.proofs.StateSteps.{run_dropped, run_quits, tick_dropped}
 use Rattle.serial_model.proofs.Tables.{sent_to-append}
-use Rattle.tracking_laws.specs.Causes.{closes, quits}
 use Rattle.tracking_laws.specs.Told.{once, where_so}
 use Rattle.tracking_laws.specs.Sent.{OnlyAnswered, SentIsTold, answers, goes_to, routes, times_to}
-use Rattle.tracking_laws.proofs.Quits.{ends_here, quits_here}
 
 module _ (n c : ℕ) where
   -- ---- one sending to each that a route leads to
@@ -85,28 +90,39 @@ module _ (n c : ℕ) where
   to_more to [] ys = omega arith
   to_more to (x ∷ xs) ys = omega (arith, to_more to xs ys)
 
-  -- one that ends is sent its end behind the rest
-  with_end : (ss : List (ℕ × Sending)) (b : Bool) (id : ℕ)
-      → length (sent_to n c (ss ++ map {B = ℕ × Sending} (λ k. (k, End)) (cond b (id ∷ []) [])))
-      ≡ length (sent_to n c ss) + once (b && (id == c))
-  with_end ss b id =
-      ap length (sent_to-append n c ss
-      (map {B = ℕ × Sending} (λ k. (k, End)) (cond b (id ∷ []) [])))
-      ∙ length-append (sent_to n c ss) _
-      ∙ ap (λ k. length (sent_to n c ss) + k) (last b)
+  -- one that ends is sent its end once
+  ends_count : (test : ℕ → Bool) (k : ℕ)
+      → length (sent_to n c (map {B = ℕ × Sending} (λ id. (id, End)) (ids_where test k)))
+      ≡ once ((nat_lt 0 c && nat_le c k) && test c)
+  ends_count test zero = grind (arith, nat_tests)
+  ends_count test (suc k) =
+      elim (test (suc k)) as (λ b. test (suc k) ≡ b
+      → length (sent_to n c (map {B = ℕ × Sending} (λ id. (id, End))
+      (cond b (ids_where test k ++ suc k ∷ []) (ids_where test k))))
+      ≡ once ((nat_lt 0 c && nat_le c (suc k)) && test c)) [
+        | true ↦ λ e. grind (
+          arith,
+          nat_tests,
+          map-append,
+          sent_to-append,
+          length-append,
+          ends_count test k,
+        )
+        | false ↦ λ e. grind (arith, nat_tests, ends_count test k)
+      ] refl
+
+  -- a reply that is sent, unless the server stops
+  reply_count : (id : ℕ) (p : Proto) (stops : Bool) (value : Value)
+      → length (sent_to n c (to_one id p (cond stops None (Some value))))
+      ≡ once ((id == c) && not stops)
+  reply_count id p true value = ap once (sym (and_false (id == c)))
     where
-      last : (b : Bool)
-          → length (sent_to n c (map {B = ℕ × Sending} (λ k. (k, End)) (cond b (id ∷ []) [])))
-          ≡ once (b && (id == c))
-      last b = grind arith
-
-  own_end : (runs quit mine : Bool) → (mine ≡ true → runs ≡ true)
-      → once ((runs && quit) && mine) ≡ once (mine && quit)
-  own_end runs quit mine f = grind arith
-
-  reply_count : (id : ℕ) (p : Proto) (v : Option Value) (value : Value) → v ≡ Some value
-      → length (sent_to n c (to_one id p v)) ≡ once (id == c)
-  reply_count id p v value e = ap (λ r. length (sent_to n c (to_one id p r))) e ∙ one id _
+      and_false : (b : Bool) → (b && false) ≡ false
+      and_false b = grind arith
+  reply_count id p false value = one id _ ∙ ap once (and_true (id == c))
+    where
+      and_true : (b : Bool) → b ≡ (b && true)
+      and_true b = grind arith
 
 -- ---- an action
 
@@ -120,10 +136,10 @@ module _ (l : Limits) (past : List Entry) (c : ℕ) where
   abbrev told_here : Action → ℕ
   told_here t = times_to (routes l past) c (action_told l t s)
 
-  off_count : (o : ℕ → Bool) (t : Action) (k : ℕ) → is_on s c ≡ false
-      → length (sent_to n c (action_sends o l t s)) ≡ where_so (runs_on l past c) k
-  off_count o t k off =
-      ap length (action_sends_off o l t s n c off)
+  off_count : (t : Action) (k : ℕ) → is_on s c ≡ false
+      → length (sent_to n c (action_sends l t s)) ≡ where_so (runs_on l past c) k
+  off_count t k off =
+      ap length (action_sends_off l t s n c off)
       ∙ sym (ap (λ b. where_so b k) (sym (on_is l past c) ∙ off))
 
   parts : (a b d : List (ℕ × Sending))
@@ -158,43 +174,53 @@ module _ (l : Limits) (past : List Entry) (c : ℕ) where
       (routed_count n c s.modes (is_on s) later)
       ∙ ap (λ k. k + replied) (sym (to_more n c (routes l past) first later))
 
+  -- and its end behind them, where it ends
+  sends_count : (t : Action) → is_on s c ≡ true
+      → routed (modes_then t s) (is_on s) (later_told l t s)
+      ≡ routed s.modes (is_on s) (later_told l t s)
+      → length (sent_to n c (action_sends l t s))
+      ≡ told_here t + length (sent_to n c (replies t)) + once (has_id c (ends l t s))
+  sends_count t on same =
+      ap length (sent_to-append n c (messages l t s) _)
+      ∙ length-append (sent_to n c (messages l t s)) _
+      ∙ ap (λ k. length (sent_to n c (messages l t s)) + k)
+      (ends_count n c (is_ending l t s) s.admitted
+      ∙ sym (ap once (ids_test (is_ending l t s) c s.admitted)))
+      ∙ ap (λ k. k + once (has_id c (ends l t s))) (action_count t on same)
+
+  -- one that is on ends where it quits or is dropped
+  ends_or_not : (ends on quits mine stops over drops : Bool)
+      → ends ≡ (on && (quits || stops || over)) → on ≡ true → quits ≡ mine
+      → drops ≡ (ends && not mine) → ends ≡ (mine || drops)
+  ends_or_not ends on quits mine stops over drops is e f g = grind arith
+
   run_count : (id : ℕ) (words : List (List ℕ)) (moment : ℕ) → is_on s c ≡ true
-      → length (sent_to n c (action_sends (is_overgrown l (run_action id words moment s) s) l
-      (run_action id words moment s) s))
-      ≡ told_here (run_action id words moment s) + once (id == c)
-      + once ((id == c) && is_quit words)
+      → length (sent_to n c (action_sends l (run_action id words moment s) s))
+      ≡ told_here (run_action id words moment s)
+      + once ((id == c) && not (stops (reading words) (mode l id past)))
+      + once (((id == c) && is_quit words) || drops_one l (Run id words moment) past c)
   run_count id words moment on =
       let t = run_action id words moment s in
-      ap (λ ids. length (sent_to n c (messages l t s
-      ++ map {B = ℕ × Sending} (λ k. (k, End)) ids)))
-      (ends_here l past id words moment)
-      ∙ with_end n c (messages l t s) (quits_here l past id words moment) id
-      ∙ ap (λ k. length (sent_to n c (messages l t s)) + k)
-      (own_end n c (runs_on l past id) (is_quit words) (id == c)
-      (λ e. ap (runs_on l past) (eqb-true id c e) ∙ sym (on_is l past c) ∙ on))
-      ∙ ap (λ k. k + once ((id == c) && is_quit words))
-      (action_count t on (later_routed l past id words moment)
-      ∙ ap (λ k. told_here t + k)
-      (reply_count n c id t.effect.mode.proto t.effect.reply _
-      (ap (λ b. cond b None (Some (ran l past id words moment).reply))
-      (none_stops (reading words)))))
+      sends_count t on (later_routed l past id words moment)
+      ∙ ap (λ k. told_here t + k + once (has_id c (ends l t s)))
+      (reply_count n c id t.effect.mode.proto (is_stopping t.effect.ending)
+      (ran l past id words moment).reply
+      ∙ ap (λ b. once ((id == c) && not b)) (stop_in (mode l id past) words))
+      ∙ ap (λ b. told_here t + once ((id == c) && not (stops (reading words) (mode l id past)))
+      + once b)
+      (ends_or_not (has_id c (ends l t s)) (is_on s c) (quits t c) _
+      (is_stopping t.effect.ending) (is_overgrown l t s c) _ (ends_are l t s c) on
+      (run_quits id moment words s c) (run_dropped l past c id moment words))
 
   tick_count : (moment : ℕ) → is_on s c ≡ true
-      → length (sent_to n c (action_sends (is_overgrown l (tick_action moment s) s) l
-      (tick_action moment s) s))
-      ≡ told_here (tick_action moment s) + 0 + 0
+      → length (sent_to n c (action_sends l (tick_action moment s) s))
+      ≡ told_here (tick_action moment s) + 0 + once (drops_one l (Tick moment) past c)
   tick_count moment on =
       let t = tick_action moment s in
-      ap (λ ids. length (sent_to n c (messages l t s ++ map (λ k. (k, End)) ids)))
-      (none_by_tick l moment s)
-      ∙ ap (λ ss. length (sent_to n c ss)) (append-nil (messages l t s))
-      ∙ action_count t on
+      sends_count t on
       (ap (routed (modes_then t s) (is_on s)) (tick_none l past moment)
       ∙ ap (routed s.modes (is_on s)) (sym (tick_none l past moment)))
-      ∙ no_more (told_here t)
-    where
-      no_more : (k : ℕ) → k + 0 ≡ k + 0 + 0
-      no_more k = omega arith
+      ∙ ap (λ b. told_here t + 0 + once b) (sym (tick_dropped l past c moment))
 
 -- ---- entries
 
@@ -215,22 +241,24 @@ sent_is_told l (Run id words moment) past c =
     let s = state l past in
     let t = run_action id words moment s in
     let told = times_to (routes l past) c (invalidations l (Run id words moment) past)
-    + once (id == c) + once ((id == c) && is_quit words) in
+    + once (answers l (Run id words moment) past c)
+    + once (((id == c) && is_quit words) || drops_one l (Run id words moment) past c) in
     no_end _ (where_so (runs_on l past c) told) (not (has_ended l c past))
     (elim (cases_Bool (is_on s c)) [
       | inl on ↦ run_count l past c id words moment on
           ∙ sym (ap (λ b. where_so b told) (sym (on_is l past c) ∙ on))
-      | inr off ↦ off_count l past c (is_overgrown l t s) t told off
+      | inr off ↦ off_count l past c t told off
     ])
 sent_is_told l (Tick moment) past c =
     let s = state l past in
     let t = tick_action moment s in
-    let told = times_to (routes l past) c (invalidations l (Tick moment) past) + 0 + 0 in
+    let told = times_to (routes l past) c (invalidations l (Tick moment) past) + 0
+    + once (drops_one l (Tick moment) past c) in
     no_end _ (where_so (runs_on l past c) told) (not (has_ended l c past))
     (elim (cases_Bool (is_on s c)) [
       | inl on ↦ tick_count l past c moment on
           ∙ sym (ap (λ b. where_so b told) (sym (on_is l past c) ∙ on))
-      | inr off ↦ off_count l past c (is_overgrown l t s) t told off
+      | inr off ↦ off_count l past c t told off
     ])
 sent_is_told l (Take id max) past c = silent (runs_on l past c) (not (has_ended l c past))
 sent_is_told l (Close id) past c =
@@ -281,11 +309,11 @@ module _ (modes : ℕ → ModeState) (on : ℕ → Bool) (c : ℕ) (two : (modes
   tracking_none Off k = refl
   tracking_none (On s) k = redirect_none s.redirect k
 
-  none_to : (told : List Invalidation) → times_to (route_at modes on) c told ≡ 0
-  none_to [] = refl
-  none_to (i ∷ told) =
+  none_goes : (told : List Invalidation) → times_to (route_at modes on) c told ≡ 0
+  none_goes [] = refl
+  none_goes (i ∷ told) =
       none_more (goes_to (route_at modes on i.to) c) (times_to (route_at modes on) c told)
-      (tracking_none (modes i.to).tracking i.to) (none_to told)
+      (tracking_none (modes i.to).tracking i.to) (none_goes told)
     where
       none_more : (b : Bool) (k : ℕ) → b ≡ false → k ≡ 0 → once b + k ≡ 0
       none_more b k e f = grind arith
@@ -299,6 +327,6 @@ only_answered l entry past c two apart =
     let s = state l past in
     sent_is_told l entry past c
     ∙ without (runs_on l past c) (times_to (routes l past) c (invalidations l entry past))
-    (once (answers entry c)) (once (quits entry c))
-    (once (not (has_ended l c past) && closes entry c))
-    (none_to s.modes (is_on s) c two apart (invalidations l entry past))
+    (once (answers l entry past c)) (once (quits_by entry c || drops_one l entry past c))
+    (once (not (has_ended l c past) && closes_by entry c))
+    (none_goes s.modes (is_on s) c two apart (invalidations l entry past))

@@ -1,27 +1,18 @@
 -- Why a connection comes to remember a key, and why it remembers it no more.
-use Rattle.std.specs.Prelude.{◌≡◌, ◌==◌, ◌&&◌, ◌||◌, ℕ, List, ◌∷◌, Bool, true, false, not}
+use Rattle.std.specs.Prelude.{◌≡◌, ◌&&◌, ◌||◌, ℕ, List, ◌∷◌, Bool, true, false, not}
 use Rattle.serial_model.specs.declared.history.Limits.{Limits}
 use Rattle.serial_model.specs.declared.history.Entry.{Entry}
-use Rattle.serial_model.specs.declared.history.Entry.TheVariants.{Close, Run}
+use Rattle.serial_model.specs.EntryEffects.{drops_one}
 use Rattle.serial_model.specs.History.{mode, table, has_ended}
-use Rattle.serial_model.specs.History.{is_admitted, is_quit, is_tracking}
+use Rattle.serial_model.specs.History.{is_admitted, is_tracking}
 use Rattle.serial_model.specs.Laws.{is_told, is_due, remembers, signals_key, drops_key}
+use Rattle.serial_model.specs.Laws.{closes_by, quits_by}
 use Rattle.track_modes.specs.ModeState.{is_on}
 use Rattle.tracking_laws.specs.Told.{reads_key, rows_at_drop}
 
--- the entry closes the connection
-abbrev pub closes : Entry → ℕ → Bool
-closes (Close id) c = id == c
-closes _ c = false
-
--- the entry is the connection's QUIT
-abbrev pub quits : Entry → ℕ → Bool
-quits (Run id words moment) c = (id == c) && is_quit words
-quits _ c = false
-
--- the entry is the end of the connection
-abbrev pub ends : Entry → ℕ → Bool
-ends entry c = closes entry c || quits entry c
+-- the entry is the end of the connection: its Close or its QUIT, or it drops it
+abbrev pub ends : Limits → Entry → List Entry → ℕ → Bool
+ends l entry past c = closes_by entry c || quits_by entry c || drops_one l entry past c
 
 -- A connection comes to remember a key only by its own read, where its mode at that read says so.
 abbrev pub RememberedIsRead : Limits → Entry → List Entry → Type 0
@@ -45,7 +36,7 @@ LeavesForCause l entry past =
     → remembers (table l past) c key ≡ true
     → remembers (table l (entry ∷ past)) c key ≡ false
     → (signals_key l entry past key || not (is_on (mode l c (entry ∷ past)).tracking)
-    || ends entry c || drops_key l entry past key) ≡ true
+    || ends l entry past c || drops_key l entry past key) ≡ true
 
 -- A key that an entry signals or drops is forgotten: a connection remembers it behind the entry
 -- only where the entry is its own read, and the key is not dropped.
@@ -66,10 +57,12 @@ EachReadIsOwedOrTold l entry past =
     || has_ended l c (entry ∷ past)) ≡ true
 
 -- And this read itself is remembered, whatever was told before it: the connection remembers the key
--- behind the entry, or the key is dropped at once, of which the connection is told.
+-- behind the entry; or it came to remember it, and the key is dropped at once, of which the
+-- connection is told, or the connection is.
 abbrev pub EachReadIsRemembered : Limits → Entry → List Entry → Type 0
 EachReadIsRemembered l entry past =
     (c : ℕ) (key : List ℕ)
     → reads_key l entry past c key ≡ true
     → (remembers (table l (entry ∷ past)) c key
-    || (drops_key l entry past key && remembers (rows_at_drop l entry past) c key)) ≡ true
+    || ((drops_key l entry past key || drops_one l entry past c)
+    && remembers (rows_at_drop l entry past) c key)) ≡ true

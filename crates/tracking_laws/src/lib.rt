@@ -33,8 +33,8 @@ pub fn law_told_once()
 
 /// A connection comes to remember a key by its own read alone, where its mode says so at that read,
 /// and remembers it no more only for a cause: the key is signalled or dropped, or the connection
-/// stops tracking or ends, by QUIT too. A key that is signalled or dropped is forgotten until it is
-/// read again, also where its own command under NOLOOP signals it.
+/// stops tracking or ends, by QUIT or as it is dropped too. A key that is signalled or dropped is
+/// forgotten until it is read again, also where its own command under NOLOOP signals it.
 pub fn law_remembered_for_cause()
     ensures read { OfEachEntry RememberedIsRead }
     ensures leaves { OfEachEntry LeavesForCause }
@@ -48,15 +48,16 @@ pub fn law_oldest_are_dropped()
 {}
 
 /// Each key that a remembered read names is owed or told: its connection is told of it from then
-/// on, or it has been told already, or it has ended. It is remembered, or dropped at once and told.
+/// on, or it has been told already, or it has ended. It is remembered, or dropped at once and told,
+/// or its connection is dropped.
 pub fn law_each_read_is_owed_or_told()
     ensures owed { OfEachLegal EachReadIsOwedOrTold }
     ensures remembered { OfEachEntry EachReadIsRemembered }
 {}
 
 /// An entry sends a connection a message for each time that it tells one whose messages go to it,
-/// and beside these its reply and its end alone, which a QUIT sends too. On the second protocol,
-/// not subscribed, it is sent no message.
+/// and beside these its reply and its end alone, which a QUIT and a drop send too. A SHUTDOWN is
+/// not answered. On the second protocol, not subscribed, a connection is sent no message.
 pub fn law_sent_is_told()
     ensures told { OfEachEntry SentIsTold }
     ensures answered { OfEachEntry OnlyAnswered }

@@ -1,10 +1,12 @@
 //! Tests of schedules: their text, and what a world prints beside a slow reference player.
 mod cuts;
+mod drops;
 mod modes;
 mod redirection;
 mod reference_client;
 mod reference_links;
 mod reference_modes;
+mod reference_past;
 mod reference_player;
 mod reference_server;
 mod schedule_table;

@@ -8,7 +8,9 @@ use Rattle.resp_stream.specs.declared.fault.FaultPlace.{FaultPlace}
 use Rattle.serial_model.specs.declared.history.BookReply.{BookReply}
 use Rattle.serial_model.specs.declared.history.BookCall.{BookCall}
 use Rattle.serial_model.specs.declared.history.BookCall.TheVariants as book
-use Rattle.serial_model.specs.Steps.{book_step}
+use Rattle.serial_model.specs.declared.history.Entry.{Entry}
+use Rattle.serial_model.specs.declared.history.Limits.{Limits}
+use Rattle.serial_model.specs.Steps.{Turn, book_step}
 use Rattle.shared_cache.specs.declared.entry.CacheEntry.{CacheEntry}
 use Rattle.shared_cache.specs.declared.log.ClientCall.{ClientCall}
 use Rattle.shared_cache.specs.declared.log.ClientCall.TheVariants as call
@@ -18,10 +20,11 @@ use Rattle.shared_cache.specs.Laws.{Every}
 use Rattle.script_text.specs.declared.line.Line.{Line}
 use Rattle.script_text.specs.declared.line.Line.TheVariants as line
 use Rattle.server_links.specs.declared.link.LinkMove.TheVariants as moves
-use Rattle.server_links.specs.EntryLines.{reply_lines}
+use Rattle.server_links.specs.EntryLines.{drop_lines, dropped_lines, reply_lines}
 use Rattle.server_links.specs.LinkEvent.{LinkEvent, Raw, Put, Over, Now, Tick}
-use Rattle.server_links.specs.LinksState.{LinksState}
-use Rattle.server_links.specs.LinkSteps.{over, over_named, place_of, step, tick, tick_lines}
+use Rattle.server_links.specs.LinksState.{LinksState, names}
+use Rattle.server_links.specs.LinkSteps.{over, over_named, place_of, step, tick, tick_line}
+use Rattle.server_links.specs.LinkSteps.{tick_lines}
 use Rattle.server_links.specs.Moves.{all_bytes, stopped_at, turned, run_one, run_all, run_requests}
 use Rattle.server_links.specs.Moves.{run_fed, serve_all, serve, take_down, end_down, send_all, send}
 use Rattle.server_links.specs.Moves.{eof_lines, read_lines, read_bytes, read_eof, receive_all}
@@ -68,10 +71,23 @@ h_reply : (link : List ℕ) (words : List (List ℕ)) (r : BookReply)
     → NoHits (reply_lines link words r)
 h_reply link words r = grind arith
 
+h_drops : (e : ℕ) (names : List (List ℕ)) (ids : List ℕ) → NoHits (drop_lines e names ids)
+h_drops e names [] = tt
+h_drops e names (id ∷ ids) = (tt, h_drops e names ids)
+
+h_dropped : (l : Limits) (names : List (List ℕ)) (r : BookReply) (past : List Entry)
+    → NoHits (dropped_lines l names r past)
+h_dropped l names r past = grind (arith, h_drops)
+
+h_turned : (s : Session) (words : List (List ℕ)) (t : Turn) → Hitless (turned s words t)
+h_turned s words t =
+    both (reply_lines s.link.name words t.reply) _ (h_reply s.link.name words t.reply)
+    (h_dropped s.limits s.names t.reply t.past)
+
 h_made : (c : BookCall) (words : List (List ℕ)) (s : Session)
     → Hitless (link_moves.turn c words s)
 unfolding link_moves.turn
-h_made c words s = h_reply s.link.name words (book_step s.limits s.past c).reply
+h_made c words s = h_turned s words (book_step s.limits s.past c)
 
 h_run_all : (requests : List (List (List ℕ))) (s : Session) → Hitless (run_all requests s)
 unfolding run_all run_one
@@ -102,7 +118,9 @@ h_serve count s = grind (arith, h_serve_all, h_if, h_then, h_run_fed)
 
 h_take : (most : ℕ) (s : Session) → Hitless (take_down most s)
 unfolding take_down
-h_take most s = grind (arith, h_then, h_reply)
+h_take most s =
+    h_then (turned s [] (book_step s.limits s.past (book.Take s.link.id most))) _
+    (h_turned s [] (book_step s.limits s.past (book.Take s.link.id most))) (λ t. tt)
 
 -- and perhaps an EOF behind it
 h_down : (most : ℕ) (s : Session) → Hitless (and_then (take_down most s) end_down)
@@ -130,8 +148,13 @@ h_named : (p : Option ℕ) (event : LinkEvent) (w : LinksState)
 unfolding over
 h_named p event w = grind (arith, h_within, h_move)
 
-h_ticked : (moment : ℕ) (r : BookReply) → NoHits (tick_lines moment r)
-h_ticked moment r = grind arith
+h_tick : (moment : ℕ) (r : BookReply) → NoHits (tick_line moment r)
+h_tick moment r = grind arith
+
+h_ticked : (w : LinksState) (moment : ℕ) (t : Turn) → NoHits (tick_lines w moment t)
+h_ticked w moment t =
+    both (tick_line moment t.reply) _ (h_tick moment t.reply)
+    (h_dropped w.limits (names w.links) t.reply t.past)
 
 pub h_step : (event : LinkEvent) (w : LinksState) → Hitless (step w event)
 unfolding step tick
@@ -139,7 +162,7 @@ h_step (Raw name) w = grind (arith, h_reply)
 h_step (Put name bytes) w = h_named (place_of name w) (Put name bytes) w
 h_step (Over name move) w = h_named (place_of name w) (Over name move) w
 h_step (Now moment) w = tt
-h_step Tick w = h_ticked _ _
+h_step Tick w = h_ticked w _ _
 
 -- ---- clients
 

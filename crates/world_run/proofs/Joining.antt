@@ -1,5 +1,5 @@
 -- A link is made, and a client at it.
-use Rattle.std.proofs.Common.{◌≡◌, ◌+◌, ◌<◌, ℕ, List, [], ◌∷◌, ◌++◌, Bool, true, false, cond, not}
+use Rattle.std.proofs.Common.{◌≡◌, ◌+◌, ◌<◌, ℕ, List, [], ◌∷◌, ◌++◌, true, false, cond, not}
 use Rattle.std.proofs.Common.{Some, None, length, refl, sym, ap, subst, ◌∙◌, arith, append-nil}
 use Rattle.std.proofs.Common.{length-append}
 use Rattle.std.proofs.lemmas.Bool.{cases_lt}
@@ -7,7 +7,7 @@ use Rattle.std.proofs.lemmas.List.{get_or_push, get_or_append_left}
 use Rattle.resp_stream.proofs.Onward.{no_values, values_begun}
 use Rattle.serial_model.specs.declared.history.Limits.{Limits}
 use Rattle.serial_model.specs.History.{admitted}
-use Rattle.serial_model.specs.Steps.{Turn, book_step}
+use Rattle.serial_model.proofs.StepCases.{by_admit}
 use Rattle.serial_model.specs.Steps as steps
 use Rattle.shared_cache.specs.declared.log.ClientMode.{ClientMode}
 use Rattle.shared_cache.specs.Held.{Setup}
@@ -16,7 +16,7 @@ use Rattle.script_text.specs.declared.line.Line.{Line}
 use Rattle.server_links.specs.declared.fault.WorldFault.TheVariants.{NameTaken, Refused}
 use Rattle.server_links.specs.LinkEvent.{Raw}
 use Rattle.server_links.specs.LinksState.{LinksState, at_place, fresh_link}
-use Rattle.server_links.specs.LinkSteps.{admitting, place_of, raw_step, step}
+use Rattle.server_links.specs.LinkSteps.{admitting, place_of, raw_step, step, stopped_number}
 use Rattle.server_links.specs.OneHistory.{read_on}
 use Rattle.server_links.specs.Outcome.{and_then, does, refuses, within}
 use Rattle.server_links.proofs.Carries.{read_more}
@@ -53,11 +53,14 @@ made_now name w free =
 
 pub raw_made : (name : List ℕ) (w : LinksState) → (step w (Raw name)).fault ≡ None
     → IsMade name w (step w (Raw name)).state
-unfolding step book_step
+unfolding step
 raw_made name w none = elim (place_of name w) as (λ p. place_of name w ≡ p
     → (raw_step w name p).fault ≡ None → IsMade name w (raw_step w name p).state) [
       | Some at ↦ λ is e. absurd (let no : Some NameTaken ≡ None = e in cc)
-      | None ↦ λ free e. made_now name w free
+      | None ↦ λ free. by_admit w.limits w.past (λ t. (admitting w name t).fault ≡ None
+          → IsMade name w (admitting w name t).state)
+          (λ e. absurd (let no : Some (Refused stopped_number) ≡ None = e in cc))
+          (λ on e. made_now name w free)
     ] refl none
 
 module _ (l : Limits) (heard : ℕ → List ℕ) (raw : List ℕ → List ℕ) (lines : List Line)

@@ -1,5 +1,5 @@
 -- What an event of the links leaves of them, wherever it comes to, and what it prints of reading.
-use Rattle.std.proofs.Common.{◌≡◌, ◌+◌, ◌<◌, ℕ, List, [], ◌∷◌, ◌++◌, Bool, true, false, cond, Some}
+use Rattle.std.proofs.Common.{◌≡◌, ◌+◌, ◌<◌, ℕ, List, [], ◌∷◌, ◌++◌, Bool, false, Some}
 use Rattle.std.proofs.Common.{None, Option, length, drop, refl, ap, ◌∙◌, arith, append-nil}
 use Rattle.std.proofs.Common.{length-append, length-set, eq-eqb}
 use Rattle.std.specs.Str.{bytes_eq}
@@ -10,27 +10,31 @@ use Rattle.resp_stream.specs.declared.fault.FaultPlace.{FaultPlace}
 use Rattle.serial_model.specs.declared.history.Entry.{Entry}
 use Rattle.serial_model.specs.declared.history.Entry.TheVariants as entry
 use Rattle.serial_model.specs.declared.history.BookReply.{BookReply}
+use Rattle.serial_model.specs.EntryEffects.{dropped_by}
 use Rattle.serial_model.specs.History.{admitted}
-use Rattle.serial_model.specs.Steps.{Turn, book_step}
-use Rattle.serial_model.specs.Steps as steps
+use Rattle.serial_model.specs.Steps.{Turn, admitting as joining}
+use Rattle.serial_model.proofs.StepCases.{by_admit}
 use Rattle.script_text.specs.declared.line.Line.{Line}
+use Rattle.script_text.specs.declared.line.Line.TheVariants as line
 use Rattle.server_links.specs.declared.fault.WorldFault.{WorldFault}
 use Rattle.server_links.specs.declared.fault.WorldFault.TheVariants.{NoName, NothingThere}
 use Rattle.server_links.specs.declared.link.Link.{Link}
 use Rattle.server_links.specs.declared.link.LinkMove.TheVariants as moves
 use Rattle.server_links.specs.EntryLines.{reply_lines}
 use Rattle.server_links.specs.LinkEvent.{LinkEvent, Raw, Put, Over, Now, Tick}
-use Rattle.server_links.specs.LinksState.{LinksState, at_place, fresh_link}
+use Rattle.server_links.specs.LinksState.{LinksState, at_place, fresh_link, names}
 use Rattle.server_links.specs.LinkSteps.{admitting, over, over_named, place_of, raw_step, step}
 use Rattle.server_links.specs.Moves.{turned, turn, run_one, run_all, run_requests, run_fed, close}
-use Rattle.server_links.specs.Moves.{stop, serve_all, serve, take_down, end_down, with_end, send}
+use Rattle.server_links.specs.Moves.{stop, stop_open, serve_all, serve, take_down}
+use Rattle.server_links.specs.Moves.{end_down, with_end, send}
 use Rattle.server_links.specs.Moves.{read_lines, eof_lines}
 use Rattle.server_links.specs.Moves.{receive_all, receive, move_of}
 use Rattle.server_links.specs.OneHistory.{read_on}
 use Rattle.server_links.specs.Outcome.{Outcome, and_then, does, refuses, stays, within}
 use Rattle.server_links.specs.Session.{Session, session_at, with_session}
 use Rattle.server_links.specs.Transcript.{up_to}
-use Rattle.server_links.proofs.Carries.{read_more}
+use Rattle.server_links.proofs.Carries.{mute_turn, read_more, told}
+use Rattle.server_links.proofs.Drops.{drops_unread}
 use Rattle.server_links.proofs.Names.{names_itself, placed, unplaced}
 use Rattle.server_links.proofs.Outcomes.{Meets, meets_stays, meets_once, meets_refuses, meets_then}
 use Rattle.server_links.proofs.Outcomes.{meets_weaker, meets_within}
@@ -114,13 +118,19 @@ made_grows w id name free =
 
 raw_moved : (name : List ℕ) (w : LinksState)
     → Meets (LinkMoved w name) (LinkMoved w name) (raw_step w name (place_of name w))
-unfolding book_step
-raw_moved name w = elim (place_of name w) as (λ p. place_of name w ≡ p
-    → Meets (LinkMoved w name) (LinkMoved w name) (raw_step w name p)) [
+raw_moved name w =
+    let M : LinksState → List Line → Type 0 = LinkMoved w name in
+    elim (place_of name w) as (λ p. place_of name w ≡ p → Meets M M (raw_step w name p)) [
       | Some at ↦ grind (arith, meets_refuses, moved_none)
-      | None ↦ λ free.
-          let made = made_grows w (admitted w.past + 1) name free in
-          grind (arith, meets_once, moved_none)
+      | None ↦ λ free. by_admit w.limits w.past (λ t. Meets M M (admitting w name t))
+          (meets_once M M w w [] _ (λ none. moved_none w name) (moved_none w name)
+          (moved_none w name))
+          (λ on.
+          let id = admitted w.past + 1 in
+          let m : M (admitting w name (joining w.past)).state
+          (line.Admit (length w.past + 1) name id ∷ []) =
+          record { grows = made_grows w id name free; mute = λ n q. refl } in
+          meets_once M M w _ _ None (λ none. m) (moved_none w name) m)
     ] refl
 
 -- the links are the same ones
@@ -158,7 +168,8 @@ step_moved w Tick =
     tick_goes_on w (LinkMoved w []) (moved_none w [])
     (λ moment e. record {
       grows = same_grows w w.now (entry.Tick moment ∷ []);
-      mute = λ n q. refl;
+      mute = λ n q. drops_unread n e (names w.links)
+          (dropped_by w.limits (entry.Tick moment ∷ w.past));
     })
 
 -- ---- nothing is read
@@ -203,8 +214,12 @@ mute_reply : (link : List ℕ) (words : List (List ℕ)) (reply : BookReply)
 unfolding Mute
 mute_reply link words reply n = grind arith
 
+mute_told : (s : Session) (words : List (List ℕ)) (t : Turn) → Mute (told s words t)
+unfolding Mute
+mute_told s words t n = mute_turn n s.limits s.names s.link.name words t
+
 mutes_turned : (s : Session) (words : List (List ℕ)) (t : Turn) → Mutes (turned s words t)
-mutes_turned s words t = mutes_once s _ _ _ (mute_reply s.link.name words t.reply)
+mutes_turned s words t = mutes_once s _ _ _ (mute_told s words t)
 
 mutes_does : (s new : Session) → Mutes (does s new [])
 mutes_does s new = mutes_once s new [] None nothing_read
@@ -220,9 +235,13 @@ mutes_close : (s : Session) → Mutes (close s)
 unfolding close turn
 mutes_close s = mutes_turned s [] _
 
-mutes_stop : (place : Option FaultPlace) (eof : Bool) (s : Session) → Mutes (stop place eof s)
+mutes_stop_open : (place : Option FaultPlace) (eof : Bool) (s : Session)
+    → Mutes (stop_open place eof s)
 unfolding Mute
-mutes_stop place eof s = grind (arith, mutes_then, mutes_once, mutes_close, mutes_stays)
+mutes_stop_open place eof s = grind (arith, mutes_then, mutes_once, mutes_close, mutes_stays)
+
+mutes_stop : (place : Option FaultPlace) (eof : Bool) (s : Session) → Mutes (stop place eof s)
+mutes_stop place eof s = grind (arith, mutes_stop_open, mutes_stays)
 
 mutes_run_fed : (eof : Bool) (s : Session) → Mutes (run_fed eof s)
 unfolding run_fed run_requests
@@ -279,7 +298,10 @@ step_mutes w (Raw name) h = mutes_raw name (place_of name w) w
 step_mutes w (Put name bytes) h = mutes_named (place_of name w) (Put name bytes) w h
 step_mutes w (Over name move) h = mutes_named (place_of name w) (Over name move) w h
 step_mutes w (Now moment) h = mutes_stays _
-step_mutes w Tick h = tick_goes_on w (λ t ls. Mute ls) nothing_read (λ moment e n. refl)
+step_mutes w Tick h =
+    tick_goes_on w (λ t ls. Mute ls) nothing_read
+    (λ moment e n. drops_unread n e (names w.links)
+    (dropped_by w.limits (entry.Tick moment ∷ w.past)))
 
 -- ---- what is read
 

@@ -1,14 +1,13 @@
 -- What each client's log gets of what its end reads, after each event of a world.
-use Rattle.std.proofs.Common.{◌≡◌, ◌≤◌, ◌<◌, ◌+◌, ◌⊎◌, ℕ, zero, suc, List, [], ◌∷◌, ◌++◌, Bool}
-use Rattle.std.proofs.Common.{true}
-use Rattle.std.proofs.Common.{false, cond, not, Some, None, Option, length, refl, sym, ap, subst}
+use Rattle.std.proofs.Common.{◌≡◌, ◌≤◌, ◌<◌, ◌⊎◌, ℕ, zero, suc, List, [], ◌∷◌, ◌++◌}
+use Rattle.std.proofs.Common.{false, not, Some, None, Option, length, refl, sym, ap, subst}
 use Rattle.std.proofs.Common.{◌∙◌, arith, append-nil, append_assoc, inl, inr, length-append}
 use Rattle.std.proofs.Common.{length-set, slice_set}
 use Rattle.std.specs.Prelude.{◌||◌}
 use Rattle.std.specs.Str.{bytes_eq}
 use Rattle.std.proofs.lemmas.Bool.{cases_lt}
 use Rattle.std.proofs.lemmas.List.{get_or_push, get_or_append_left}
-use Rattle.resp_stream.specs.Parse.{Batch, parse_values, values_of}
+use Rattle.resp_stream.specs.Parse.{Batch}
 use Rattle.resp_stream.proofs.Onward.{no_values, none_valued}
 use Rattle.resp_value.specs.Spelling.{request_spelling}
 use Rattle.resp_value.specs.Tree.{Tree}
@@ -17,8 +16,6 @@ use Rattle.shared_cache.specs.declared.log.ClientCall.{ClientCall}
 use Rattle.shared_cache.specs.declared.log.ClientCall.TheVariants as call
 use Rattle.shared_cache.specs.declared.log.ClientMode.{ClientMode}
 use Rattle.shared_cache.specs.declared.log.LogEntry.{LogEntry}
-use Rattle.shared_cache.specs.declared.log.Wire.TheVariants.{Main}
-use Rattle.shared_cache.specs.Laws.{gots}
 use Rattle.shared_cache.specs.Steps.{client_step}
 use Rattle.script_text.specs.declared.event.Event.{Event}
 use Rattle.script_text.specs.declared.event.Event.TheVariants.{Raw, Say, Bytes, Client, Out, Serve}
@@ -28,7 +25,6 @@ use Rattle.script_text.specs.declared.line.Line.{Line}
 use Rattle.server_links.specs.declared.fault.WorldFault.{WorldFault}
 use Rattle.server_links.specs.declared.fault.WorldFault.TheVariants.{NameTaken, NoName}
 use Rattle.server_links.specs.declared.fault.WorldFault.TheVariants.{NothingThere, Refused}
-use Rattle.server_links.specs.declared.link.LinkMove.{LinkMove}
 use Rattle.server_links.specs.declared.link.LinkMove.TheVariants as moves
 use Rattle.server_links.specs.LinkEvent as link_event
 use Rattle.server_links.specs.LinkEvent.{LinkEvent}
@@ -37,13 +33,13 @@ use Rattle.server_links.specs.LinkSteps as links
 use Rattle.server_links.specs.Moves as link_moves
 use Rattle.server_links.specs.LinkSteps.{place_of}
 use Rattle.server_links.specs.OneHistory.{read_by, read_on}
-use Rattle.server_links.specs.Outcome.{Outcome, and_then, does, refuses, stays, then_by, within}
+use Rattle.server_links.specs.Outcome.{Outcome, and_then, does, refuses, within}
 use Rattle.server_links.proofs.Carries.{read_more}
 use Rattle.server_links.proofs.LinksStand.{not_equal}
 use Rattle.server_links.proofs.Names.{placed, unplaced}
 use Rattle.world_run.specs.WorldState.{MemberState, WorldState, client_named, client_of_link}
 use Rattle.world_run.specs.WorldState.{data_link, fresh_member, member_at, no_setup}
-use Rattle.world_run.specs.Members.{Seat, log_of, seat_at, setup_of, with_seat}
+use Rattle.world_run.specs.Members.{Seat, log_of, seat_at, setup_of}
 use Rattle.world_run.specs.ClientMoves as client
 use Rattle.world_run.specs.ClientMoves.{show, turn}
 use Rattle.world_run.specs.ReadLog.{Going, IsGot, has_eof, is_eof_of}
@@ -58,7 +54,7 @@ use Rattle.world_run.proofs.Kept.{Orderly, o_flow, o_out, o_receive, o_show, o_t
 use Rattle.world_run.proofs.Links.{IsUnread, name_of_event}
 use Rattle.world_run.proofs.Names.{client_there, link_nowhere, link_there}
 use Rattle.world_run.proofs.ReadLogMoves.{Done, done_if, done_then}
-use Rattle.world_run.proofs.ReadLogSeats.{By, Placed, Ready, Settles, Unread, by_unread, eof_more}
+use Rattle.world_run.proofs.ReadLogSeats.{By, Ready, Settles, Unread, by_unread, eof_more}
 use Rattle.world_run.proofs.ReadLogSeats.{flow_settles, link_grows, receive_settles, same_out}
 use Rattle.world_run.proofs.ReadLogSeats.{same_settles, same_show, same_turn, unread_quiet, Gets}
 use Rattle.world_run.proofs.ScheduleLogEvents.{made, mine, theirs}

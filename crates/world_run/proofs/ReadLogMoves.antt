@@ -1,6 +1,6 @@
 -- What a client's log gets of what its end of the link reads.
-use Rattle.std.proofs.Common.{◌≡◌, ℕ, List, [], ◌∷◌, ◌++◌, Bool, true, false, cond, not, Some, None}
-use Rattle.std.proofs.Common.{Option, length, map, take, refl, sym, ap, subst, ◌∙◌, append_assoc}
+use Rattle.std.proofs.Common.{◌≡◌, ℕ, List, [], ◌∷◌, ◌++◌, Bool, true, false, cond, Some, None}
+use Rattle.std.proofs.Common.{Option, map, refl, sym, ap, subst, ◌∙◌, append_assoc}
 use Rattle.std.proofs.Common.{append-nil, arith}
 use Rattle.std.specs.Prelude.{◌||◌}
 use Rattle.std.proofs.lemmas.List.{map-append}
@@ -9,7 +9,6 @@ use Rattle.resp_value.specs.Tree.{Tree}
 use Rattle.resp_value.specs.ValueTree.{tree_of, value_of}
 use Rattle.resp_value.specs.declared.value.Value.{Value}
 use Rattle.resp_value.proofs.OneToOne.{tree_back}
-use Rattle.resp_stream.specs.declared.fault.FaultPlace.{FaultPlace}
 use Rattle.resp_stream.specs.Parse.{parse_values, values_of}
 use Rattle.resp_stream.specs.Stream.{begun, fed}
 use Rattle.shared_cache.specs.declared.log.ClientCall.{ClientCall}
@@ -32,7 +31,7 @@ use Rattle.script_text.specs.declared.line.Line.{Line}
 use Rattle.server_links.specs.Moves.{stopped_at}
 use Rattle.server_links.specs.Outcome.{Outcome, and_then, does, stays, then_by}
 use Rattle.server_links.proofs.FaultPlaces.{values_met}
-use Rattle.world_run.specs.Members.{Seat, log_of, setup_of, with_log, with_reader}
+use Rattle.world_run.specs.Members.{Seat, log_of, setup_of, with_log}
 use Rattle.world_run.specs.ClientMoves.{fault_of, got, got_all, got_one, has_ended, lines_of}
 use Rattle.world_run.specs.ClientMoves.{next_read, read_values, rest_read, stop, turn}
 use Rattle.world_run.specs.ReadLog.{ByEnd, ByValue, Ending, Going, IsGot, IsWell, ending}

@@ -1,16 +1,15 @@
 -- A client at its link: what its end reads, and what its log gets of it.
-use Rattle.std.proofs.Common.{◌≡◌, ◌<◌, ◌≤◌, ℕ, List, [], ◌∷◌, ◌++◌, Bool, true, false, cond, not}
+use Rattle.std.proofs.Common.{◌≡◌, ◌<◌, ℕ, List, [], ◌∷◌, ◌++◌, Bool, true, false, cond, not}
 use Rattle.std.proofs.Common.{Some, None, Option, length, map, take, drop, refl, sym, ap, subst}
 use Rattle.std.proofs.Common.{◌∙◌}
-use Rattle.std.proofs.Common.{append-nil, append_assoc, arith, inl, inr}
+use Rattle.std.proofs.Common.{append-nil, append_assoc, arith, inl}
 use Rattle.std.specs.Prelude.{◌&&◌, ◌||◌, nat_le}
-use Rattle.std.specs.Str.{bytes_eq}
 use Rattle.std.proofs.lemmas.List.{drop_all, get_or-set_same}
 use Rattle.resp_value.specs.Tree.{Tree}
 use Rattle.resp_value.specs.ValueTree.{tree_of, value_of}
 use Rattle.resp_stream.specs.declared.fault.FaultPlace.{FaultPlace}
 use Rattle.resp_stream.specs.Parse.{parse_values, values_of}
-use Rattle.resp_stream.specs.Stream.{Stream, begun, fed}
+use Rattle.resp_stream.specs.Stream.{fed}
 use Rattle.resp_stream.proofs.Onward.{GoesOn}
 use Rattle.shared_cache.specs.declared.log.ClientCall.{ClientCall}
 use Rattle.shared_cache.specs.declared.log.ClientCall.TheVariants as call
@@ -27,11 +26,10 @@ use Rattle.shared_cache.specs.Out.{untaken}
 use Rattle.shared_cache.specs.Steps.{ClientTurn, client_step, is_log_full, refusing, taking_out}
 use Rattle.script_text.specs.declared.line.Line.{Line}
 use Rattle.server_links.specs.declared.fault.WorldFault.TheVariants.{NothingThere}
-use Rattle.server_links.specs.declared.link.LinkMove.{LinkMove}
 use Rattle.server_links.specs.declared.link.LinkMove.TheVariants as moves
 use Rattle.server_links.specs.declared.direction.Direction.{Direction}
 use Rattle.server_links.specs.Directions.{is_queued, without}
-use Rattle.server_links.specs.LinkEvent.{LinkEvent, Put, Over}
+use Rattle.server_links.specs.LinkEvent.{LinkEvent, Over}
 use Rattle.server_links.specs.LinksState.{LinksState, at_place}
 use Rattle.server_links.specs.LinkSteps.{over, over_named, place_of, step}
 use Rattle.server_links.specs.Moves.{all_bytes, eof_lines, move_of, read_lines, receive_all}
@@ -44,17 +42,17 @@ use Rattle.server_links.specs.Session.{Session, session_at}
 use Rattle.server_links.proofs.Names.{names_itself, place_is}
 use Rattle.world_run.specs.WorldState.{MemberState}
 use Rattle.world_run.specs.Members.{Seat, link_of, links_do, log_of, setup_of, with_reader}
-use Rattle.world_run.specs.ClientMoves.{bytes_of, feed, flow, got, got_all, got_one, hang_up}
+use Rattle.world_run.specs.ClientMoves.{feed, flow, got, got_all, got_one, hang_up}
 use Rattle.world_run.specs.ClientMoves.{has_ended, next_read, out, print, read_values, receive}
 use Rattle.world_run.specs.ClientMoves.{show, shown}
 use Rattle.world_run.specs.ClientMoves.{receive_bytes, receive_eof, rest_read, stop, take_out, turn}
 use Rattle.world_run.specs.ReadLog.{ByEnd, ByValue, Ending, Going, IsGot, IsWell, ending}
 use Rattle.world_run.specs.ReadLog.{has_eof}
-use Rattle.world_run.proofs.Links.{IsUnread, name_of_event, step_moved, step_reads}
+use Rattle.world_run.proofs.Links.{IsUnread, step_moved, step_reads}
 use Rattle.world_run.proofs.Members.{LinkGrows}
 use Rattle.world_run.proofs.ReadLogMoves.{Done, Settled, done_if, done_then, done_turn, going_is}
 use Rattle.world_run.proofs.ReadLogMoves.{Lone, ended_is, got_of, is_over, values_settle}
-use Rattle.world_run.proofs.ScheduleLogLines.{AllQuiet, Quiets, no_eof, no_read, q_hang, q_links}
+use Rattle.world_run.proofs.ScheduleLogLines.{AllQuiet, no_eof, no_read, q_hang, q_links}
 use Rattle.world_run.proofs.ScheduleLogLines.{q_next, q_out, q_values}
 use Rattle.world_run.proofs.ScheduleLogMoves.{c_bytes, c_values}
 

@@ -1,12 +1,10 @@
 -- Where in the history a client's answers stand: by the entries of its commands, from the last on.
-use Rattle.std.proofs.Common.{◌≡◌, ◌+◌, ◌-◌, ◌<◌, ◌≤◌, ℕ, zero, suc, List, [], ◌∷◌, ◌++◌, length}
-use Rattle.std.proofs.Common.{Bool, true, false, cond, drop, take, map, max, reverse, refl, sym, ap}
+use Rattle.std.proofs.Common.{◌≡◌, ◌+◌, ◌-◌, ◌<◌, ◌≤◌, ℕ, zero, suc, List, [], ◌∷◌, length}
+use Rattle.std.proofs.Common.{Bool, true, false, cond, drop, take, map, max, refl, ap}
 use Rattle.std.proofs.Common.{◌∙◌, arith, Some, None}
 use Rattle.std.specs.Prelude.{slice_get}
-use Rattle.std.proofs.lemmas.List.{reverse-append, length-reverse}
 use Rattle.serial_model.specs.declared.history.Limits.{Limits}
 use Rattle.serial_model.specs.declared.history.Entry.{Entry}
-use Rattle.serial_model.specs.declared.history.Entry.TheVariants.{Run}
 use Rattle.serial_model.specs.History.{Sending, run_entries, runs_of, sent}
 use Rattle.shared_cache.specs.declared.log.LogEntry.{LogEntry}
 use Rattle.shared_cache.specs.declared.log.Shape.TheVariants.{Single}
@@ -15,7 +13,6 @@ use Rattle.shared_cache.specs.Log.{is_ended}
 use Rattle.shared_cache.specs.Laws.{gots}
 use Rattle.currency.specs.Links.{Client}
 use Rattle.currency.specs.Points.{before_first, complete, last_named, names_key}
-use Rattle.currency.proofs.Lists.{get_front, get_last}
 use Rattle.currency.proofs.Runs.{in_order, ran_at as run_at}
 use Rattle.server_links.specs.Notes.{sent_entries}
 

@@ -2,10 +2,8 @@
 use Rattle.std.proofs.Common.{◌≡◌, ◌≤◌, ◌<◌, ◌+◌, ℕ, zero, suc, List, [], ◌∷◌, ◌++◌, Bool, true}
 use Rattle.std.proofs.Common.{false}
 use Rattle.std.proofs.Common.{cond, not, Some, None, Option, length, refl, sym, ap, subst, ◌∙◌}
-use Rattle.std.proofs.Common.{arith, append-nil, inl, inr, length-append, length-set, slice_set}
+use Rattle.std.proofs.Common.{arith, append-nil, inr, length-append, length-set, slice_set}
 use Rattle.std.specs.Prelude.{option_to_list}
-use Rattle.std.specs.Str.{bytes_eq}
-use Rattle.std.proofs.lemmas.Bool.{cases_lt}
 use Rattle.std.proofs.lemmas.Grind.{get_or-set_at}
 use Rattle.std.proofs.lemmas.List.{get_or-set_other, get_or_push, get_or_append_left}
 use Rattle.resp_value.specs.Spelling.{request_spelling}
@@ -33,17 +31,17 @@ use Rattle.server_links.proofs.NameLists.{nowhere}
 use Rattle.server_links.proofs.Names.{names_itself}
 use Rattle.world_run.specs.WorldState.{MemberState, WorldState, client_named, client_of_link}
 use Rattle.world_run.specs.WorldState.{data_link, fresh_member, member_at, no_setup}
-use Rattle.world_run.specs.Members.{Seat, log_of, seat_at, setup_of, with_seat}
+use Rattle.world_run.specs.Members.{Seat, log_of, seat_at, setup_of}
 use Rattle.world_run.specs.ClientMoves as client
 use Rattle.world_run.specs.ClientMoves.{show, turn}
-use Rattle.world_run.specs.ScheduleLog.{Called, Notes, Uncalled, answer_by, answerer, answers_of}
+use Rattle.world_run.specs.ScheduleLog.{Called, Notes, answer_by, answerer, answers_of}
 use Rattle.world_run.specs.ScheduleLog.{call_of, if_named}
 use Rattle.world_run.specs.World.{Stepped, client_does, flow_at, flow_first, flow_step, is_served}
 use Rattle.world_run.specs.World.{is_taken, join, links_step, named_does, not_served, out_step}
 use Rattle.world_run.specs.World.{raw_out, recv_step, said_step, setup_by, step}
 use Rattle.world_run.specs.World as world
 use Rattle.world_run.proofs.Names.{client_there}
-use Rattle.world_run.proofs.ScheduleLogLines.{AllQuiet, Quiets, both, no_answers, q_next}
+use Rattle.world_run.proofs.ScheduleLogLines.{Quiets, both, no_answers, q_next}
 use Rattle.world_run.proofs.ScheduleLogLines.{q_out, q_show, q_step}
 use Rattle.world_run.proofs.ScheduleLogMoves.{Calm, Calms, Turned, ask_called, c_flow, c_out}
 use Rattle.world_run.proofs.ScheduleLogMoves.{c_receive, c_show, calm_both, calm_same}

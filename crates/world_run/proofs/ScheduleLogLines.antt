@@ -13,8 +13,10 @@ use Rattle.resp_stream.specs.Parse.{parse, parse_values}
 use Rattle.serial_model.specs.declared.history.BookReply.{BookReply}
 use Rattle.serial_model.specs.declared.history.BookCall.{BookCall}
 use Rattle.serial_model.specs.declared.history.BookCall.TheVariants as book
+use Rattle.serial_model.specs.declared.history.Entry.{Entry}
+use Rattle.serial_model.specs.declared.history.Limits.{Limits}
 use Rattle.serial_model.specs.History.{reads_on}
-use Rattle.serial_model.specs.Steps.{book_step}
+use Rattle.serial_model.specs.Steps.{Turn, book_step}
 use Rattle.shared_cache.specs.declared.entry.CacheEntry.{CacheEntry}
 use Rattle.shared_cache.specs.declared.log.ClientCall.{ClientCall}
 use Rattle.shared_cache.specs.declared.log.ClientCall.TheVariants as call
@@ -29,10 +31,11 @@ use Rattle.server_links.specs.declared.fault.WorldFault.TheVariants.{NothingTher
 use Rattle.server_links.specs.declared.link.LinkMove.{LinkMove}
 use Rattle.server_links.specs.declared.link.LinkMove.TheVariants as moves
 use Rattle.server_links.specs.Directions.{is_queued, past_eof, without, without_bytes}
-use Rattle.server_links.specs.EntryLines.{reply_lines}
+use Rattle.server_links.specs.EntryLines.{drop_lines, dropped_lines, reply_lines}
 use Rattle.server_links.specs.LinkEvent.{LinkEvent, Raw, Put, Over, Now, Tick}
-use Rattle.server_links.specs.LinksState.{LinksState, at_place}
-use Rattle.server_links.specs.LinkSteps.{over, over_named, place_of, step, tick, tick_lines}
+use Rattle.server_links.specs.LinksState.{LinksState, names}
+use Rattle.server_links.specs.LinkSteps.{over, over_named, place_of, step, tick, tick_line}
+use Rattle.server_links.specs.LinkSteps.{tick_lines}
 use Rattle.server_links.specs.Moves.{stopped_at, turned, run_one, run_all, run_requests}
 use Rattle.server_links.specs.Moves.{run_fed, serve_all, serve, take_down, end_down, send_all, send}
 use Rattle.server_links.specs.Moves.{eof_lines, read_lines, receive_all, move_of}
@@ -143,10 +146,23 @@ module _ (o : Option (List ℕ)) where
       → AllQuiet o (reply_lines link words r)
   q_reply link words r = grind arith
 
+  q_drops : (e : ℕ) (names : List (List ℕ)) (ids : List ℕ) → AllQuiet o (drop_lines e names ids)
+  q_drops e names [] = tt
+  q_drops e names (id ∷ ids) = (tt, q_drops e names ids)
+
+  q_dropped : (l : Limits) (names : List (List ℕ)) (r : BookReply) (past : List Entry)
+      → AllQuiet o (dropped_lines l names r past)
+  q_dropped l names r past = grind (arith, q_drops)
+
+  q_turned : (s : Session) (words : List (List ℕ)) (t : Turn) → Quiets o (turned s words t)
+  q_turned s words t =
+      both o (reply_lines s.link.name words t.reply) _ (q_reply s.link.name words t.reply)
+      (q_dropped s.limits s.names t.reply t.past)
+
   q_made : (c : BookCall) (words : List (List ℕ)) (s : Session)
       → Quiets o (link_moves.turn c words s)
   unfolding link_moves.turn
-  q_made c words s = q_reply s.link.name words (book_step s.limits s.past c).reply
+  q_made c words s = q_turned s words (book_step s.limits s.past c)
 
   q_run_all : (requests : List (List (List ℕ))) (s : Session) → Quiets o (run_all requests s)
   unfolding run_all run_one
@@ -162,13 +178,19 @@ module _ (o : Option (List ℕ)) where
   unfolding link_moves.close
   q_close s = q_made (book.Close s.link.id) [] s
 
-  q_stop : (place : Option FaultPlace) (eof : Bool) (s : Session)
-      → Quiets o (link_moves.stop place eof s)
-  q_stop (Some place) eof s =
+  q_stop_open : (place : Option FaultPlace) (eof : Bool) (s : Session)
+      → Quiets o (link_moves.stop_open place eof s)
+  q_stop_open (Some place) eof s =
       q_next o (does s s (line.Bad s.link.name place.number place.offset ∷ []))
       link_moves.close (tt, tt) q_close
-  q_stop None true s = q_close s
-  q_stop None false s = tt
+  q_stop_open None true s = q_close s
+  q_stop_open None false s = tt
+
+  q_stop : (place : Option FaultPlace) (eof : Bool) (s : Session)
+      → Quiets o (link_moves.stop place eof s)
+  q_stop place eof s =
+      q_if o (reads_on s.limits s.past s.link.id) (link_moves.stop_open place eof s) (stays s)
+      (q_stop_open place eof s) tt
 
   q_run_fed : (eof : Bool) (s : Session) → Quiets o (run_fed eof s)
   unfolding run_fed run_requests
@@ -200,7 +222,7 @@ module _ (o : Option (List ℕ)) where
   unfolding take_down
   q_take most s =
       let t = book_step s.limits s.past (book.Take s.link.id most) in
-      q_next o (turned s [] t) _ (q_reply s.link.name [] t.reply) (λ u. tt)
+      q_next o (turned s [] t) _ (q_turned s [] t) (λ u. tt)
 
   -- and perhaps an EOF behind it
   q_down : (most : ℕ) (s : Session) → Quiets o (and_then (take_down most s) end_down)
@@ -269,8 +291,13 @@ module _ (o : Option (List ℕ)) where
   q_put name bytes None w = tt
   q_put name bytes (Some at) w = q_within o _ _ tt
 
-  q_ticked : (moment : ℕ) (r : BookReply) → AllQuiet o (tick_lines moment r)
-  q_ticked moment r = grind arith
+  q_tick : (moment : ℕ) (r : BookReply) → AllQuiet o (tick_line moment r)
+  q_tick moment r = grind arith
+
+  q_ticked : (w : LinksState) (moment : ℕ) (t : Turn) → AllQuiet o (tick_lines w moment t)
+  q_ticked w moment t =
+      both o (tick_line moment t.reply) _ (q_tick moment t.reply)
+      (q_dropped w.limits (names w.links) t.reply t.past)
 
   pub q_step : (event : LinkEvent) (w : LinksState)
       → IsUnread event ⊎ Apart o (name_of_event event) → Quiets o (step w event)
@@ -279,7 +306,7 @@ module _ (o : Option (List ℕ)) where
   q_step (Put name bytes) w r = q_put name bytes (place_of name w) w
   q_step (Over name move) w r = q_named name move (place_of name w) w refl r
   q_step (Now moment) w r = tt
-  q_step Tick w r = q_ticked _ _
+  q_step Tick w r = q_ticked w _ _
 
 -- ---- clients
 

@@ -31,14 +31,14 @@ use Rattle.script_text.specs.declared.line.Line.TheVariants as line
 use Rattle.server_links.specs.declared.fault.WorldFault.{WorldFault}
 use Rattle.server_links.specs.declared.fault.WorldFault.TheVariants.{NothingThere}
 use Rattle.server_links.specs.declared.link.LinkMove.TheVariants as moves
-use Rattle.server_links.specs.LinkEvent.{LinkEvent, Put, Over}
+use Rattle.server_links.specs.LinkEvent.{LinkEvent, Over}
 use Rattle.server_links.specs.Moves.{all_bytes, stopped_at}
 use Rattle.server_links.specs.Outcome.{Outcome, and_then, does, refuses, stays, within}
 use Rattle.world_run.specs.WorldState.{MemberState}
-use Rattle.world_run.specs.Members.{Seat, link_of, links_do, log_of, setup_of, with_log}
+use Rattle.world_run.specs.Members.{Seat, link_of, links_do, log_of, setup_of}
 use Rattle.world_run.specs.Members.{with_reader}
 use Rattle.world_run.specs.ClientMoves.{fault_of, feed, flow, got, got_all, got_one}
-use Rattle.world_run.specs.ClientMoves.{bytes_of, hang_up, has_ended, lines_of, next_read, out}
+use Rattle.world_run.specs.ClientMoves.{hang_up, has_ended, lines_of, next_read, out}
 use Rattle.world_run.specs.ClientMoves.{print, read_values, receive, receive_bytes}
 use Rattle.world_run.specs.ClientMoves.{receive_eof, rest_read, show, shown, stop}
 use Rattle.world_run.specs.ClientMoves.{refused_fault, take_out, turn}

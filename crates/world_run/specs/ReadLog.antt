@@ -25,6 +25,7 @@ use Rattle.world_run.specs.WorldState.{MemberState, WorldState, member_at}
 abbrev pub is_eof_of : List ℕ → Line → Bool
 is_eof_of link (line.Admit e name id) = false
 is_eof_of link (line.Run e name words) = false
+is_eof_of link (line.Drop e name) = false
 is_eof_of link (line.Bad name number offset) = false
 is_eof_of link (line.Close e name) = false
 is_eof_of link (line.Take e name count) = false

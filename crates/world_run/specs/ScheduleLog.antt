@@ -1,5 +1,5 @@
 -- What a client's log has of a schedule: its calls, each with the one line that answers it.
-use Rattle.std.specs.Prelude.{◌≡◌, ◌<◌, ℕ, List, [], ◌∷◌, ◌++◌, Bool, true, false}
+use Rattle.std.specs.Prelude.{◌≡◌, ◌<◌, ℕ, List, [], ◌∷◌, ◌++◌, true, false}
 use Rattle.std.specs.Prelude.{if◌then◌else◌, length, option_to_list}
 use Rattle.std.specs.declared.option.Option.{Option}
 use Rattle.std.specs.declared.option.Option.TheVariants.{None, Some}
@@ -59,6 +59,7 @@ calls_of name events = flat_map (λ e. option_to_list (call_of name e)) events
 abbrev pub answerer : Line → Option (List ℕ)
 answerer (line.Admit e link id) = None
 answerer (line.Run e link words) = None
+answerer (line.Drop e link) = None
 answerer (line.Bad link number offset) = None
 answerer (line.Close e link) = None
 answerer (line.Take e link count) = None

@@ -46,7 +46,7 @@ fn limits_of(history_max: u64) -> Limits
 {
     Limits {
         table_max: 2,
-        out_max: 1,
+        out_max: 1_000_000,
         history_max,
     }
 }
@@ -62,6 +62,7 @@ fn parts_of(reply: &BookReply) -> (u64, &[u8]) {
         BookReply::Quiet => (0, b"quiet"),
         BookReply::Refused(BookRefusal::Gone { .. }) => (0, b"gone"),
         BookReply::Refused(BookRefusal::NoMemory) => (0, b"no memory"),
+        BookReply::Refused(BookRefusal::Stopped) => (0, b"stopped"),
     }
 }
 

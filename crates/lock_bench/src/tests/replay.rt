@@ -21,12 +21,12 @@ const TABLE_MAX: u64 = 9;
 const TEXT: &str = "qkzmxbrtwyhjcndgvpfslaeuoiwqmzbxktrhyjcdngvfpslaueiomqzkwxbtryhjdcngpvfsle";
 
 #[derive(Drop)]
-struct Dice {
-    state: u64,
+pub(super) struct Dice {
+    pub(super) state: u64,
 }
 
 impl Dice {
-    fn roll(&mut self, sides: u64) -> u64
+    pub(super) fn roll(&mut self, sides: u64) -> u64
         requires { 0 < sides }
         ensures { result < sides }
     {
@@ -135,7 +135,7 @@ fn limits() -> Limits
 {
     Limits {
         table_max: TABLE_MAX,
-        out_max: 1,
+        out_max: 1_000_000,
         history_max: 1_000_000,
     }
 }

@@ -1,6 +1,7 @@
 //! One connection over a link in memory: how it ends, how many of its requests ran, and what was
 //! written to it, in how many writes.
 ghost use Rattle.std.specs.declared.option.Option.TheVariants.{None};
+ghost use Rattle.serial_model.specs.Steps.{AreValid};
 
 use conn_worker::*;
 use edge_links::{Clock, FixedClock, Link, LinkRead, LinkStep, MemoryLink, Wrote};
@@ -77,8 +78,26 @@ impl Link for CountedLink {
     }
 }
 
-/// How a row of the table ends over a new server, how many of its requests ran, and in how many
-/// writes they were answered.
+/// How a connection over a server of these limits ends, how many of its requests ran, and in how
+/// many writes they were answered.
+fn said_within<R: Wait, C: Clock, G: Gate>(
+    rt: &R,
+    alloc: Global,
+    limits: Limits,
+    link: &mut CountedLink,
+    clock: &C,
+    gate: &G,
+) -> Result<String, AllocError>
+    requires { AreValid limits }
+{
+    let Ok((lock, mut seat)) = open(alloc, limits) else {
+        return Err(AllocError);
+    };
+    let report = serve_link(rt, alloc, &lock, &mut seat, link, clock, gate);
+    format!(in alloc; "{:?} {} in {}", report.ended, report.requests, link.writes)
+}
+
+/// The same, where much output may wait.
 fn said<R: Wait, C: Clock, G: Gate>(
     rt: &R,
     alloc: Global,
@@ -92,11 +111,7 @@ fn said<R: Wait, C: Clock, G: Gate>(
         out_max: 1_000_000,
         history_max: history_max.max(1),
     };
-    let Ok((lock, mut seat)) = open(alloc, limits) else {
-        return Err(AllocError);
-    };
-    let report = serve_link(rt, alloc, &lock, &mut seat, link, clock, gate);
-    format!(in alloc; "{:?} {} in {}", report.ended, report.requests, link.writes)
+    said_within(rt, alloc, limits, link, clock, gate)
 }
 
 /// The steps of a link, the most entries, how much of what is written fits; the end, the requests
@@ -124,7 +139,12 @@ GET_a;QUIT;QUIT;,idle,fail = 100 = 100 = Quit 2 in 1 = $-1;+OK;
 QUIT;*1;$007 = 100 = 100 = Quit 1 in 1 = +OK;
 QUIT; = 100 = 2 = LinkFault 1 in 2 = +O
 QUIT_a;GET_a; = 100 = 100 = PeerEnd 2 in 1 = \
-    -ERR wrong number of arguments for 'quit' command;$-1;";
+    -ERR wrong number of arguments for 'quit' command;$-1;
+SHUTDOWN; = 100 = 100 = Dropped 1 in 0 = 
+PING;,shutdown_nosave; = 100 = 100 = Dropped 2 in 1 = +PONG;
+PING;SHUTDOWN;PING;QUIT; = 100 = 100 = Dropped 2 in 0 = 
+SUBSCRIBE_a;SHUTDOWN; = 100 = 100 = PeerEnd 2 in 1 = \
+    *3;$9;subscribe;$1;a;:1;-ERR not allowed while subscribed;";
 
 fn link_of(alloc: Global, steps: &str, room: usize) -> Result<CountedLink, AllocError> {
     let Ok(link) = MemoryLink::new(alloc, room, steps_of(alloc, steps)?) else {
@@ -150,6 +170,38 @@ fn comes_to<R: Wait>(rt: &R, alloc: Global, row: &str) -> Result<bool, Fail> {
 fn a_connection_ends_as_its_link_does(rt: HostRuntime) -> Result<(), Fail> {
     for row in ROWS.lines() {
         assert!(rt; comes_to(&rt, rt.alloc(), row)?, "{row}");
+    }
+    Ok(())
+}
+
+/// The steps of a link, how many bytes may wait for its connection; the end, the requests and the
+/// writes; and what was written. What waits for one that is dropped is given up.
+const DROPS: &str = "\
+SET_a_v;GET_a; = 12 = PeerEnd 2 in 1 = +OK;$1;v;
+SET_a_v;GET_a; = 11 = Dropped 2 in 0 = 
+SET_a_v;,GET_a; = 7 = PeerEnd 2 in 2 = +OK;$1;v;
+SET_a_v;,GET_a;GET_a;,GET_a; = 6 = Dropped 2 in 1 = +OK;";
+
+fn drops_so<R: Wait>(rt: &R, alloc: Global, row: &str) -> Result<bool, Fail> {
+    let mut parts = row.split(" = ");
+    let mut link = link_of(alloc, parts.next().unwrap_or(""), 100)?;
+    let out_max = parts.next().unwrap_or("").parse::<u64>().unwrap_or(1);
+    let limits = Limits {
+        table_max: 100,
+        out_max: out_max.max(1),
+        history_max: 100,
+    };
+    let clock = FixedClock { ms: 7 };
+    let came = said_within(rt, alloc, limits, &mut link, &clock, &OpenGate)?;
+    let is_end = came.as_str() == parts.next().unwrap_or("");
+    let written = bytes_of(alloc, parts.next().unwrap_or(""))?;
+    Ok(is_end && link.link.bytes() == written.as_slice())
+}
+
+#[test]
+fn a_connection_for_which_too_much_waits_is_dropped(rt: HostRuntime) -> Result<(), Fail> {
+    for row in DROPS.lines() {
+        assert!(rt; drops_so(&rt, rt.alloc(), row)?, "{row}");
     }
     Ok(())
 }
@@ -291,6 +343,7 @@ fn a_gate_is_told_of_each_end(rt: HostRuntime) -> Result<(), Fail> {
         ("*1;$007", 100, 104),
         ("GET_a;", 3, 105),
         ("QUIT;GET_a;", 100, 102),
+        ("SHUTDOWN;", 100, 103),
     ] {
         let gate = counting_gate();
         let mut link = link_of(rt.alloc(), steps, room)?;
@@ -316,5 +369,25 @@ fn a_gate_is_told_of_each_request_and_of_those_that_were_answered(
     )?;
     assert_eq!(rt; gate.begun.load(Ordering::SeqCst), 7);
     assert_eq!(rt; gate.answered.load(Ordering::SeqCst), 3);
+    Ok(())
+}
+
+#[test]
+fn behind_a_shutdown_no_connection_is_admitted(rt: HostRuntime) -> Result<(), Fail> {
+    let limits = Limits {
+        table_max: 100,
+        out_max: 1_000_000,
+        history_max: 100,
+    };
+    let clock = FixedClock { ms: 7 };
+    let gate = counting_gate();
+    let (lock, mut seat) = open(rt.alloc(), limits)?;
+    for (steps, told, requests) in [("SHUTDOWN;", 103, 1), ("GET_a;", 9, 0)] {
+        let mut link = link_of(rt.alloc(), steps, 100)?;
+        let report = serve_link(&rt, rt.alloc(), &lock, &mut seat, &mut link, &clock, &gate);
+        assert_eq!(rt; gate.ended.load(Ordering::SeqCst), told);
+        assert_eq!(rt; report.requests, requests);
+        assert!(rt; link.link.bytes().is_empty());
+    }
     Ok(())
 }

@@ -112,11 +112,11 @@ r < +OK\\r\\n_\\r\\n+RESET\\r\\n
 #10 take w 5
 w < +OK\\r\\n
 
-0 raw r;say r CLIENT TRACKING ON REDIRECT 1;say r SUBSCRIBE a;say r SHUTDOWN;flow r
+0 raw r;say r CLIENT TRACKING ON REDIRECT 1;say r SUBSCRIBE a;say r SELECT 1;flow r
 #1 admit r 1
 #2 run r CLIENT TRACKING ON REDIRECT 1
 #3 run r SUBSCRIBE a
-#4 run r SHUTDOWN
+#4 run r SELECT 1
 #5 take r 52
 r < +OK\\r\\n-ERR\\schannel\\snot\\sserved\\r\\n-ERR\\sunknown\\scommand\\r\\n";
 

@@ -1,8 +1,8 @@
 //! The links of the reference player. It keeps the list of entries, the bytes in flight and what
 //! each end has read, and works out all else anew at each event.
 use super::reference_client::{Client, Deed};
-use super::reference_modes::has_quit;
-use super::reference_server::{all_sent, run_entry, stream};
+use super::reference_past::{Dropped, Seen};
+use super::reference_server::{all_sent, run_entry, stops, stream};
 use resp_stream::{FaultPlace, RequestReader, ValueReader};
 use resp_value::{NoMemory, Octets, Words};
 use script_text::{Line, put_line};
@@ -40,11 +40,17 @@ pub struct Wire {
 pub struct Past {
     pub alloc: Global,
     pub table_max: usize,
+    pub out_max: usize,
+    /// A SHUTDOWN ran.
+    pub is_stopped: bool,
+    /// The names of the links, in order of their connections.
+    pub names: Vec<Octets>,
     /// What the clock shows.
     pub now: u64,
     /// The greatest moment of the entries.
     pub moment: u64,
     pub entries: Vec<Entry>,
+    pub drops: Vec<Dropped>,
     pub text: Vec<u8>,
 }
 
@@ -53,11 +59,6 @@ fn ran(id: u64, past: &[Entry]) -> usize {
     past.iter()
         .filter(|entry| matches!(entry, Entry::Run { id: of, .. } if *of == id))
         .count()
-}
-
-// Whether a connection, that was admitted, has no Close.
-fn is_open(id: u64, past: &[Entry]) -> bool {
-    !past.iter().any(|entry| matches!(entry, Entry::Close { id: of } if *of == id))
 }
 
 // The bytes but the first so many.
@@ -161,19 +162,20 @@ impl Past {
         put_line(&line, &mut self.text)
     }
 
-    fn is_connected(&self, id: u64) -> bool {
-        is_open(id, self.entries.as_slice())
+    fn seen(&self) -> Seen<'_> {
+        Seen {
+            entries: self.entries.as_slice(),
+            drops: self.drops.as_slice(),
+        }
     }
 
-    fn has_quit(&self, id: u64) -> bool {
-        has_quit(id, self.entries.as_slice())
+    fn is_connected(&self, id: u64) -> bool {
+        self.seen().is_connected(id)
     }
 
     // All that was sent to a connection.
     fn stream(&self, id: u64, count: usize) -> Result<Vec<u8>, NoMemory> {
-        let past = self.entries.as_slice();
-        let count = count.min(past.len());
-        stream(self.alloc, self.table_max, id, &past[..count])
+        stream(self.alloc, self.table_max, id, self.seen().front(count))
     }
 
     // What was sent and not taken.
@@ -198,7 +200,7 @@ impl Past {
 
     /// How many entries sent a connection nothing but the first so many messages.
     pub fn complete(&self, id: u64, got: usize) -> Result<u64, NoMemory> {
-        let sent = all_sent(self.alloc, self.table_max, id, self.entries.as_slice())?;
+        let sent = all_sent(self.alloc, self.table_max, id, self.seen())?;
         match sent.get(got) {
             Some(message) => Ok(message.entry.saturating_sub(1)),
             None => Ok(self.entries.len() as u64),
@@ -219,9 +221,27 @@ impl Past {
     fn run(&mut self, wire: &Wire, words: Words) -> Result<(), NoMemory> {
         self.print_run(wire, &words)?;
         let id = wire.id;
+        let stops = stops(self.alloc, self.table_max, id, &words, self.seen())?;
         let moment = self.moment.max(self.now);
         self.moment = moment;
-        self.add(Entry::Run { id, words, moment })?;
+        let entry = self.add(Entry::Run { id, words, moment })?;
+        self.is_stopped = self.is_stopped || stops;
+        self.drop_those(entry, stops)
+    }
+
+    // The last entry drops all, or those for which too much waits.
+    fn drop_those(&mut self, entry: u64, all: bool) -> Result<(), NoMemory> {
+        let mut id = 0u64;
+        for place in 0..self.names.len() {
+            id = id.saturating_add(1);
+            if self.seen().is_on(id) && (all || self.unsent(id)?.len() > self.out_max) {
+                self.drops.push(Dropped { entry, id })?;
+                if let Some(name) = self.names.get(place) {
+                    let line = Line::Drop(entry, name.copy()?);
+                    self.print(line)?;
+                }
+            }
+        }
         Ok(())
     }
 
@@ -255,15 +275,17 @@ impl Past {
                 Ok(Some(words)) => {
                     if before > 0 {
                         before -= 1;
-                    } else if !self.has_quit(wire.id) {
+                    } else if self.seen().is_on(wire.id) {
                         self.run(wire, words)?;
                     }
                 }
-                Ok(None) => break,
-                Err(fault) => return self.break_off(wire, fault.place().ok_or(NoMemory)?),
+                Err(fault) if self.is_connected(wire.id) => {
+                    return self.break_off(wire, fault.place().ok_or(NoMemory)?);
+                }
+                _ => break,
             }
         }
-        if eof {
+        if eof && self.is_connected(wire.id) {
             self.close(wire)?;
         }
         Ok(())
@@ -305,7 +327,7 @@ impl Past {
             self.add_take(wire, max, bytes.len() as u64)?;
             wire.down.put(bytes.as_slice())?;
         }
-        if self.has_quit(wire.id) && self.unsent(wire.id)?.is_empty() {
+        if self.seen().has_quit(wire.id) && self.unsent(wire.id)?.is_empty() {
             wire.down.finish();
         }
         Ok(())

@@ -1,8 +1,9 @@
 //! What words ask for, and what the own words of a connection make of it, for the reference player.
-//! It knows GET, SET, HELLO, RESET, PING, QUIT, SUBSCRIBE, UNSUBSCRIBE, CLIENT CACHING, and CLIENT
-//! TRACKING with REDIRECT, with OPTIN or OPTOUT, or with BCAST and prefixes, and with NOLOOP.
+//! It knows GET, SET, HELLO, RESET, PING, QUIT, SHUTDOWN, SUBSCRIBE, UNSUBSCRIBE, CLIENT CACHING,
+//! and CLIENT TRACKING with REDIRECT, with OPTIN or OPTOUT, or with BCAST and prefixes, and with
+//! NOLOOP.
+use super::reference_past::Seen;
 use resp_value::{NoMemory, Octets, Proto, Words};
-use serial_model::Entry;
 use std::alloc::Global;
 
 /// The channel of invalidations, which alone is served.
@@ -38,6 +39,7 @@ pub enum Request<'a> {
     Hello(Option<Proto>),
     Ping,
     Quit,
+    Shutdown,
     Reset,
     /// To a channel.
     Subscribe(&'a [u8]),
@@ -117,6 +119,14 @@ fn hello_request(rest: &[Octets]) -> Request<'_> {
     }
 }
 
+fn shutdown_request(rest: &[Octets]) -> Request<'_> {
+    match rest {
+        [] => Request::Shutdown,
+        [word] if is(word, b"save") || is(word, b"nosave") => Request::Shutdown,
+        _ => Request::Wrong(b"-ERR syntax error\r\n"),
+    }
+}
+
 fn key_request<'a>(name: &Octets, rest: &'a [Octets]) -> Request<'a> {
     let is_get = is(name, b"get");
     let is_set = is(name, b"set");
@@ -139,6 +149,9 @@ pub fn request_of(words: &Words) -> Request<'_> {
     }
     if is(name, b"client") {
         return client_request(rest);
+    }
+    if is(name, b"shutdown") {
+        return shutdown_request(rest);
     }
     match rest {
         [] if is(name, b"ping") => Request::Ping,
@@ -255,9 +268,9 @@ impl Own {
         &self,
         asked: Tracks,
         words: &Words,
-        past: &[Entry],
+        past: Seen<'_>,
     ) -> Result<Option<&'static [u8]>, NoMemory> {
-        if asked.redirect != 0 && !is_on(asked.redirect, past) {
+        if asked.redirect != 0 && !past.is_on(asked.redirect) {
             return Ok(Some(b"-ERR no such client to redirect to\r\n"));
         }
         if self.tracks.is_some() {
@@ -293,7 +306,7 @@ impl Own {
     }
 
     /// What refuses its next words after those entries, if anything does.
-    pub fn fault(&self, words: &Words, past: &[Entry]) -> Result<Option<&'static [u8]>, NoMemory> {
+    pub fn fault(&self, words: &Words, past: Seen<'_>) -> Result<Option<&'static [u8]>, NoMemory> {
         let request = request_of(words);
         if self.is_barred(&request) {
             return Ok(Some(b"-ERR not allowed while subscribed\r\n"));
@@ -306,6 +319,11 @@ impl Own {
             )),
             _ => Ok(None),
         }
+    }
+
+    /// Whether these words of it stop the server.
+    pub fn stops(&self, words: &Words) -> bool {
+        matches!(request_of(words), Request::Shutdown) && !self.is_confined()
     }
 
     /// It tracks no more.
@@ -343,7 +361,7 @@ impl Own {
     }
 
     /// Its next words after those entries, refused or not.
-    pub fn hear(&mut self, words: &Words, past: &[Entry]) -> Result<(), NoMemory> {
+    pub fn hear(&mut self, words: &Words, past: Seen<'_>) -> Result<(), NoMemory> {
         let is_refused = self.fault(words, past)?.is_some();
         self.is_marked = !is_refused && matches!(request_of(words), Request::Mark(_));
         if is_refused {
@@ -379,21 +397,4 @@ impl Own {
             None => 0,
         }
     }
-}
-
-/// Whether the connection was admitted, and has not ended.
-pub fn is_on(id: u64, past: &[Entry]) -> bool {
-    let is_admitted = past.iter().any(
-        |entry| matches!(entry, Entry::Admit { id: by } if *by == id),
-    );
-    let is_closed = past.iter().any(|entry| matches!(entry, Entry::Close { id: by } if *by == id));
-    is_admitted && !is_closed && !has_quit(id, past)
-}
-
-/// Whether a connection said QUIT.
-pub fn has_quit(id: u64, past: &[Entry]) -> bool {
-    past.iter().any(|entry| match entry {
-        Entry::Run { id: by, words, .. } => *by == id && matches!(request_of(words), Request::Quit),
-        _ => false,
-    })
 }

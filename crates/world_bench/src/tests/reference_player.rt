@@ -1,7 +1,7 @@
 //! A slow reference player of schedules, for tests: what each event prints, by a look at all that
 //! happened before. It shares with the world the types of events and lines, their text, the
 //! spelling of a request and the readers of requests and values; not the book, the links, the
-//! client's state or a limit.
+//! client's state or how a limit is kept.
 use super::reference_client::{Client, Deed, Held, shown};
 use super::reference_links::{Past, Wire};
 use super::reference_modes::{Opts, Tracks, names};
@@ -264,14 +264,18 @@ fn play_wire(past: &mut Past, wire: &mut Wire, event: &Event) -> Result<u64, NoM
 }
 
 impl ReferencePlayer {
-    pub fn new(alloc: Global, table_max: usize) -> ReferencePlayer {
+    pub fn new(alloc: Global, table_max: usize, out_max: usize) -> ReferencePlayer {
         ReferencePlayer {
             past: Past {
                 alloc,
                 table_max,
+                out_max,
+                is_stopped: false,
+                names: Vec::new(alloc),
                 now: 0,
                 moment: 0,
                 entries: Vec::new(alloc),
+                drops: Vec::new(alloc),
                 text: Vec::new(alloc),
             },
             wires: Vec::new(alloc),
@@ -301,7 +305,11 @@ impl ReferencePlayer {
     }
 
     fn link(&mut self, name: &Octets, wire: Wire) -> Result<u64, NoMemory> {
+        if self.past.is_stopped {
+            return Ok(5);
+        }
         let id = wire.id;
+        self.past.names.push(name.copy()?)?;
         self.wires.push(wire)?;
         let entry = self.past.add(Entry::Admit { id })?;
         self.past.print(Line::Admit(entry, name.copy()?, id))?;
@@ -372,6 +380,7 @@ impl ReferencePlayer {
                 self.past.now = *moment;
                 Ok(0)
             }
+            Event::Tick if self.past.is_stopped => Ok(5),
             Event::Tick => Ok(0),
             Event::Ask(name, _) | Event::Do(name, _) | Event::Poll(name, _) | Event::Show(name) =>
                 self.play_member(name, event),

@@ -1,6 +1,7 @@
 //! What a list of entries says of the server, for the reference player: what each request does and
 //! is answered, who is told of which keys, and what is sent where; by going through the list once.
-use super::reference_modes::{CHANNEL, Own, Request, has_quit, is_on, request_of};
+use super::reference_modes::{CHANNEL, Own, Request, request_of};
+use super::reference_past::Seen;
 use resp_value::{NoMemory, Octets, Proto, Words};
 use serial_model::Entry;
 use std::alloc::Global;
@@ -283,14 +284,13 @@ impl Listener {
         }
     }
 
-    fn push(&mut self, entry: usize, bytes: Vec<u8>) -> Result<(), NoMemory> {
-        let entry = entry as u64;
+    fn push(&mut self, entry: u64, bytes: Vec<u8>) -> Result<(), NoMemory> {
         self.sent.push(Sent { entry, bytes })?;
         Ok(())
     }
 
-    fn hear_end(&mut self, past: &[Entry]) -> Result<(), NoMemory> {
-        self.push(past.len().saturating_add(1), Vec::new(self.alloc))
+    fn hear_end(&mut self, past: Seen<'_>) -> Result<(), NoMemory> {
+        self.push(past.next(), Vec::new(self.alloc))
     }
 
     // The value that the last SET of the key wrote, where there is one.
@@ -308,7 +308,7 @@ impl Listener {
         &self,
         own: &Own,
         words: &Words,
-        past: &[Entry],
+        past: Seen<'_>,
         out: &mut Vec<u8>,
     ) -> Result<(), NoMemory> {
         if let Some(fault) = own.fault(words, past)? {
@@ -330,18 +330,23 @@ impl Listener {
             Request::Ping if own.is_confined() => b"*2\r\n$4\r\npong\r\n$0\r\n\r\n",
             Request::Ping => b"+PONG\r\n",
             Request::Wrong(text) => text,
+            Request::Shutdown => b"",
             Request::Set(_, _) | Request::Quit | Request::Track(_) | Request::Mark(_) => b"+OK\r\n",
         };
         out.extend_from_slice(text)?;
         Ok(())
     }
 
-    fn hear_reply(&mut self, words: &Words, past: &[Entry]) -> Result<(), NoMemory> {
+    // A SHUTDOWN that it may run is not answered.
+    fn hear_reply(&mut self, words: &Words, past: Seen<'_>) -> Result<(), NoMemory> {
         let mut bytes = Vec::new(self.alloc);
         if let Some(own) = self.all.get(place_of(self.id)) {
+            if own.stops(words) {
+                return Ok(());
+            }
             self.put_reply(own, words, past, &mut bytes)?;
         }
-        self.push(past.len().saturating_add(1), bytes)
+        self.push(past.next(), bytes)
     }
 
     // Words that nothing bars change the keys, and tell of what they write all but their own
@@ -368,7 +373,7 @@ impl Listener {
 
     // What it is sent where that one is told of a key: the message, where it is the receiver; or
     // that the receiver has ended, where it is the one that redirects.
-    fn put_sent(&self, told: &Told, past: &[Entry], out: &mut Vec<u8>) -> Result<(), NoMemory> {
+    fn put_sent(&self, told: &Told, past: Seen<'_>, out: &mut Vec<u8>) -> Result<(), NoMemory> {
         let Some(own) = self.all.get(place_of(told.to)) else {
             return Ok(());
         };
@@ -378,29 +383,50 @@ impl Listener {
         if target == 0 && takes_pushes {
             return put_invalidation(key, out);
         }
-        if target != 0 && takes_pushes && !is_on(target, past) {
+        if target != 0 && takes_pushes && !past.is_on(target) {
             return put_notice(target, out);
         }
         match self.all.get(place_of(self.id)) {
-            Some(receiver) if target == self.id && is_on(target, past) => put_received(
+            Some(receiver) if target == self.id && past.is_on(target) => put_received(
                 receiver, key, out,
             ),
             _ => Ok(()),
         }
     }
 
-    fn hear_told(&mut self, told: &[Told], past: &[Entry]) -> Result<(), NoMemory> {
+    fn hear_told(&mut self, told: &[Told], past: Seen<'_>) -> Result<(), NoMemory> {
         for one in told {
             let mut bytes = Vec::new(self.alloc);
             self.put_sent(one, past, &mut bytes)?;
             if !bytes.is_empty() {
-                self.push(past.len().saturating_add(1), bytes)?;
+                self.push(past.next(), bytes)?;
             }
         }
         Ok(())
     }
 
-    fn hear_run(&mut self, by: u64, words: &Words, past: &[Entry]) -> Result<(), NoMemory> {
+    // The connection is told of no key any more.
+    fn forget(&mut self, id: u64) {
+        let_go(id, &mut self.rows);
+        if let Some(own) = self.all.get_mut(place_of(id)) {
+            own.forget();
+        }
+    }
+
+    // Those are dropped whom the entry behind these drops.
+    fn hear_drops(&mut self, past: Seen<'_>) -> Result<(), NoMemory> {
+        for drop in past.drops {
+            if drop.entry == past.next() {
+                self.forget(drop.id);
+                if drop.id == self.id {
+                    self.hear_end(past)?;
+                }
+            }
+        }
+        Ok(())
+    }
+
+    fn hear_run(&mut self, by: u64, words: &Words, past: Seen<'_>) -> Result<(), NoMemory> {
         if by == self.id {
             self.hear_reply(words, past)?;
         }
@@ -411,24 +437,21 @@ impl Listener {
         }
         self.hear_told(told.as_slice(), past)?;
         if by == self.id && matches!(request_of(words), Request::Quit) {
-            return self.hear_end(past);
+            self.hear_end(past)?;
         }
-        Ok(())
+        self.hear_drops(past)
     }
 
-    fn hear_close(&mut self, id: u64, past: &[Entry]) -> Result<(), NoMemory> {
-        let_go(id, &mut self.rows);
-        if let Some(own) = self.all.get_mut(place_of(id)) {
-            own.forget();
-        }
-        if id == self.id && !has_quit(id, past) {
+    fn hear_close(&mut self, id: u64, past: Seen<'_>) -> Result<(), NoMemory> {
+        self.forget(id);
+        if id == self.id && !past.has_quit(id) {
             return self.hear_end(past);
         }
         Ok(())
     }
 
     // An entry behind those before it.
-    fn hear(&mut self, entry: &Entry, past: &[Entry]) -> Result<(), NoMemory> {
+    fn hear(&mut self, entry: &Entry, past: Seen<'_>) -> Result<(), NoMemory> {
         match entry {
             Entry::Admit { .. } => {
                 self.all.push(Own::new(self.alloc))?;
@@ -440,9 +463,9 @@ impl Listener {
         }
     }
 
-    fn hear_all(&mut self, past: &[Entry]) -> Result<(), NoMemory> {
-        for place in 0..past.len() {
-            self.hear(&past[place], &past[..place])?;
+    fn hear_all(&mut self, past: Seen<'_>) -> Result<(), NoMemory> {
+        for (place, entry) in past.entries.iter().enumerate() {
+            self.hear(entry, past.front(place))?;
         }
         Ok(())
     }
@@ -453,7 +476,7 @@ pub fn all_sent(
     alloc: Global,
     table_max: usize,
     to: u64,
-    past: &[Entry],
+    past: Seen<'_>,
 ) -> Result<Vec<Sent>, NoMemory> {
     let mut listener = Listener::new(alloc, table_max, to);
     listener.hear_all(past)?;
@@ -472,12 +495,28 @@ pub fn stream(
     alloc: Global,
     table_max: usize,
     to: u64,
-    past: &[Entry],
+    past: Seen<'_>,
 ) -> Result<Vec<u8>, NoMemory> {
     let sent = all_sent(alloc, table_max, to, past)?;
     let mut out = Vec::new(alloc);
     put_stream(sent.as_slice(), &mut out)?;
     Ok(out)
+}
+
+/// Whether words that a connection says next stop the server.
+pub fn stops(
+    alloc: Global,
+    table_max: usize,
+    by: u64,
+    words: &Words,
+    past: Seen<'_>,
+) -> Result<bool, NoMemory> {
+    let mut listener = Listener::new(alloc, table_max, by);
+    listener.hear_all(past)?;
+    match listener.all.get(place_of(by)) {
+        Some(own) => Ok(own.stops(words)),
+        None => Ok(false),
+    }
 }
 
 /// The number of the entry that ran the command of that number of a connection; 0 for none.

@@ -221,3 +221,33 @@ say r GET b;flow;flow;cut s;flow;say r GET a;flow;flow
 client x single 3 default 9;raw r;flow;say r CLIENT TRACKING ON REDIRECT 1;say r GET a;flow;\
 ask x GET a;flow;show x;say r GET b;flow;flow;show x
 ";
+
+/// With little room for what a connection leaves untaken.
+pub const SMALL_OUTPUT: &str = "\
+raw a;raw b;say a SHUTDOWN;serve a;raw c
+raw a;raw b;say a GET k;say b SUBSCRIBE __redis__:invalidate;say b SHUTDOWN;flow;\
+say a SHUTDOWN nosave;say a GET k;flow;say b GET k;flow;flow;tick
+client x single 3 default 9;raw w;flow;ask x GET k;flow;say w SHUTDOWN;flow w;ask x GET k;show x;\
+flow;ask x GET k;show x;client y single 3 default 9
+raw q;raw r;say q QUIT;serve q;say r HELLO 3;flow r;say r SHUTDOWN x;\
+say r SUBSCRIBE __redis__:invalidate;flow r;say r SHUTDOWN;flow r;send q;recv q;flow;say q GET a;\
+flow;raw q
+raw a;say a SHUTDOWN SAVE;bytes a *x\\r\\n;serve a;flow;cut a;flow
+client x single 3 bcast 9;raw w;flow;ask x GET k;flow;say w SET a 1;say w SET b 1;say w SET c 1;\
+say w SET d 1;say w SET e 1;serve w;show x;flow x.data;show x;ask x GET k;flow
+raw a;say a HELLO 3;flow a;say a HELLO;say a GET k;say a GET j;say a GET i;serve a;send a;send a 1
+raw a;say a HELLO 3;flow a;say a HELLO;say a GET k;say a GET j;serve a;send a 100;recv a 1;\
+say a HELLO;say a GET h;flow a;say a GET k;flow a
+raw r;raw s;raw w;say s HELLO 3;flow s;say r HELLO 3;say r CLIENT TRACKING ON REDIRECT 2;flow r;\
+say r GET a;say r GET b;flow r;say s HELLO;serve s;say w SET a 1;say w SET b 1;flow w;say r GET a;\
+flow r;say w SET a 2;flow;flow
+raw b;raw a;raw w;say a HELLO 3;flow a;say a CLIENT TRACKING ON BCAST;say a HELLO;serve a;\
+say b HELLO 3;flow b;say b CLIENT TRACKING ON BCAST;say b HELLO;serve b;say w SET k 1;\
+say w SET k 2;serve w;flow;flow
+raw a;raw b;say a HELLO 3;flow a;say a HELLO;say a GET k;say a GET j;say a QUIT;say a GET i;\
+serve a;say b SHUTDOWN;serve b;send a 100;recv a 60;flow a;flow;say a PING;flow
+raw a;say a HELLO 3;flow a;say a HELLO;bytes a GET\\sk\\r\\nGET\\sj\\r\\nGET\\si\\r\\n*x\\r\\n;\
+serve a;flow a;serve a 1
+raw a;raw w;say a HELLO 3;flow a;say a CLIENT TRACKING ON;say a GET k;flow a;say a HELLO;serve a;\
+say w SET k 1;flow w;say w GET k;say a GET k;flow;raw c;say c CLIENT TRACKING ON REDIRECT 1;flow c
+";

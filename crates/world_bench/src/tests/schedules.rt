@@ -8,7 +8,7 @@ ghost use Rattle.script_text.specs.Valid.{IsValid};
 ghost use Rattle.serial_model.specs.Steps.{AreValid};
 
 use super::reference_player::ReferencePlayer;
-use super::schedule_table::{SCHEDULES, SMALL_TABLE};
+use super::schedule_table::{SCHEDULES, SMALL_OUTPUT, SMALL_TABLE};
 use command_words::put_printed;
 use resp_value::NoMemory;
 use script_text::{Event, Lines, law_events_are_valid, put_line, read_event};
@@ -102,7 +102,12 @@ fn refer(
     schedule: &str,
     text: &mut Vec<u8>,
 ) -> Result<u64, NoMemory> {
-    let mut player = ReferencePlayer::new(alloc, limits.table_max as usize);
+    let Limits {
+        table_max,
+        out_max,
+        ..
+    } = limits;
+    let mut player = ReferencePlayer::new(alloc, table_max as usize, out_max as usize);
     refer_schedule(alloc, &mut player, schedule, text)
 }
 
@@ -166,11 +171,22 @@ fn is_printed(alloc: Global, limits: Limits, block: &str) -> Result<bool, NoMemo
     Ok(fault == number && is_text(text.as_slice(), want))
 }
 
-pub fn prints<R: Abort>(rt: &R, alloc: Global, table: &str) -> Result<(), Fail> {
+pub fn prints_within<R: Abort>(
+    rt: &R,
+    alloc: Global,
+    limits: Limits,
+    table: &str,
+) -> Result<(), Fail>
+    requires { AreValid limits }
+{
     for block in table.split("\n\n") {
-        assert!(rt; is_printed(alloc, LIMITS, block)?, "{block}");
+        assert!(rt; is_printed(alloc, limits, block)?, "{block}");
     }
     Ok(())
+}
+
+pub fn prints<R: Abort>(rt: &R, alloc: Global, table: &str) -> Result<(), Fail> {
+    prints_within(rt, alloc, LIMITS, table)
 }
 
 // A world and the reference player print the same, and end by the same fault.
@@ -206,6 +222,17 @@ fn a_small_table_tells_what_it_drops(rt: HostRuntime) -> Result<(), Fail> {
         ..LIMITS
     };
     agree(&rt, rt.alloc(), limits, SMALL_TABLE)
+}
+
+// The handshake of a client has 149 bytes.
+#[test]
+fn a_small_limit_drops_those_that_leave_more_untaken(rt: HostRuntime) -> Result<(), Fail> {
+    let limits = Limits {
+        out_max: 150,
+        ..LIMITS
+    };
+    agree(&rt, rt.alloc(), limits, SMALL_OUTPUT)?;
+    agree(&rt, rt.alloc(), limits, SCHEDULES)
 }
 
 // Keys leave at their deadlines, a moment does not fall, and a flush is told by null.

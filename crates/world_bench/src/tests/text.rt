@@ -327,6 +327,7 @@ fn entry_line(alloc: Global, row: usize) -> Result<Line, NoMemory> {
         }
         2 => Ok(Line::Take(5, octets(alloc, "r")?, 19)),
         3 => Ok(Line::Close(11, octets(alloc, "r")?)),
+        4 => Ok(Line::Drop(10, octets(alloc, "x.data")?)),
         _ => Ok(Line::Take(u64::MAX, octets(alloc, "n1")?, 0)),
     }
 }
@@ -341,6 +342,7 @@ const ENTRY_LINES: &str = "\
 #10 run n1 SET \\\\e \\x7f
 #5 take r 19
 #11 close r
+#10 drop x.data
 #18446744073709551615 take n1 0";
 
 // What is read at an end of a link, in the order of the table below.
@@ -438,7 +440,7 @@ fn what_a_client_answers_is_printed(rt: HostRuntime) -> Result<(), Fail> {
 }
 
 fn push_entry_lines(alloc: Global, lines: &mut Lines) -> Result<(), NoMemory> {
-    for row in 0..6 {
+    for row in 0..7 {
         lines.push(entry_line(alloc, row)?)?;
     }
     Ok(())

@@ -1,8 +1,10 @@
 use denote.Param.{param}
 use denote.Param.Send.{IsSend, IsSync, param_send}
 use contract.Lifetimes.{Lfts}
-use Rattle.std.proofs.Common.{rules}
+use Rattle.std.proofs.Common.{rules, arith, subst}
+use Rattle.conn_pool.specs.Crew.{Leaves}
 use Rattle.conn_pool.proofs.Crossing.{crossing}
+use Rattle.conn_pool.proofs.Leaving.{leaves_joined}
 use Rattle.conn_pool.proofs.crew.+fan_out+fn-fan_out-join+arg2+fn-fan_out-join+arg3 as cycle
 use Rattle.conn_pool.proofs.crew.+fan_out+fn-fan_out-join+arg2+fn-fan_out-join+arg3.Given.{Over}
 use Rattle.conn_pool.proofs.crew.+fan_out+fn-fan_out-join+arg2+fn-fan_out-join+arg3.Goals as goal
@@ -36,3 +38,11 @@ join-mine-requires-send-F g t c κs within =
 pub join-mine-requires-send-A : goal.join-mine-requires-send-A
 join-mine-requires-send-A g t c κs within =
     param_send 3 _ (left_send g κs (search rules) (search rules))
+
+pub returns-clause-left : goal.returns-clause-left
+returns-clause-left g t c =
+    let one = c.join-mine.result.0 in
+    let both = c.join.ensures.amounts.1 in
+    leaves_joined c.args.crew one c.join.new.self c.join.ensures.seat.1 c.join.ensures.seen
+    (omega (arith, both))
+    (subst (λ z. Leaves z one) c.split-other.ensures.old c.join-mine.ensures.first.1)

@@ -1,6 +1,8 @@
 use Rattle.std.proofs.Common.{refl}
+use Rattle.shared_book.specs.declared.turns.Refusal.TheVariants as refusal
 use Rattle.conn_worker.specs.Visits.{Piece, Part}
 use Rattle.conn_worker.proofs.Rounding.{piece_short}
+use Rattle.conn_worker.proofs.Ticking.{unticked}
 use Rattle.conn_worker.proofs.serve.hear_once.Goals as goal
 
 pub returns-in-Ok-clause-ok : goal.returns-in-Ok-clause-ok
@@ -12,3 +14,13 @@ pub returns-in-Err-clause-err : goal.returns-in-Err-clause-err
 returns-in-Err-clause-err g c =
     Part _ (piece_short _ _ _ c.in-Bytes.ensures.bytes.1 c.read.auto.buf)
     c.in-Bytes.ensures.bytes.2 c.in-Bytes.ensures.counts c.in-Err.ensures.err
+
+pub returns-in-Err-Worn-clause-err : goal.returns-in-Err-Worn-clause-err
+returns-in-Err-Worn-clause-err g c =
+    let refused = rw c.in-Err-Worn.field-0-is at c.in-Err-Worn.ensures.err in
+    unticked _ _ refusal.Worn _ _ _ tt refused.0 c.in-Idle.ensures.bytes c.in-Idle.ensures.counts
+
+pub returns-in-Err-Stopped-clause-err : goal.returns-in-Err-Stopped-clause-err
+returns-in-Err-Stopped-clause-err g c =
+    let refused = rw c.in-Err-Stopped.field-0-is at c.in-Err-Stopped.ensures.err in
+    unticked _ _ refusal.Stopped _ _ _ tt refused.0 c.in-Idle.ensures.bytes c.in-Idle.ensures.counts

@@ -1,5 +1,5 @@
 use Rattle.serial_model.proofs.laws.law_limit_is_kept.Goals as goal
-use Rattle.serial_model.proofs.Fresh.{limit_is_kept}
+use Rattle.serial_model.proofs.DropLaws.{limit_is_kept}
 
 pub returns : goal.returns
 returns c = limit_is_kept

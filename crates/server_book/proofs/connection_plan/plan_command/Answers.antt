@@ -36,6 +36,14 @@ returns-in-Quit c =
     command.Quit (served (Ok c.args.command.now)) c.plan_quit.ensures
     (ap (λ x. served (Ok x)) c.in-Quit.is)
 
+pub returns-in-Shutdown : goal.returns-in-Shutdown
+returns-in-Shutdown c =
+    let save = c.in-Shutdown.field-0 in
+    command_planned (Ok c.plan_shutdown.result) (runner c.args.by c.args.mode.now)
+    c.args.words.now (command.Shutdown save) (served (Ok c.args.command.now))
+    (c.plan_shutdown.ensures c.args.by save)
+    (ap (λ x. served (Ok x)) c.in-Shutdown.is)
+
 pub returns-in-ClientId : goal.returns-in-ClientId
 returns-in-ClientId c =
     command_planned c.plan_id.result (runner c.args.by c.args.mode.now) c.args.words.now
@@ -53,7 +61,7 @@ pub returns-in-ClientGetRedir : goal.returns-in-ClientGetRedir
 returns-in-ClientGetRedir c =
     command_planned (Ok c.plan_getredir.result) (runner c.args.by c.args.mode.now)
     c.args.words.now command.ClientGetRedir (served (Ok c.args.command.now))
-    c.plan_getredir.ensures
+    (c.plan_getredir.ensures c.args.by)
     (ap (λ x. served (Ok x)) c.in-ClientGetRedir.is)
 
 pub returns-in-ClientTrackingInfo : goal.returns-in-ClientTrackingInfo

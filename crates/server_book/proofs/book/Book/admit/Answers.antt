@@ -1,10 +1,11 @@
 use Rattle.std.proofs.Common.{◌≡◌, ◌+◌, ◌∷◌, [], length, sym, ap, subst, ◌∙◌, arith, Some}
 use Rattle.serial_model.specs.declared.history.Entry.TheVariants as entry
 use Rattle.serial_model.specs.declared.history.BookCall.TheVariants.{Admit}
-use Rattle.server_book.specs.BookState.{Agrees, BookState, HasRoom}
+use Rattle.serial_model.specs.History.{is_stopped}
+use Rattle.server_book.specs.BookState.{Agrees, BookState, HasRoom, IsAccepted}
 use Rattle.server_book.specs.Connections.{ConnectionsState}
 use Rattle.server_book.proofs.BookTurns.{is_turn, agrees_admit, room_admit, admit_turned}
-use Rattle.server_book.proofs.BookTurns.{effect_admit, posted_admit}
+use Rattle.server_book.proofs.BookTurns.{dropped_admit, effect_admit, posted_admit, stopped_admit}
 use Rattle.server_book.proofs.book.Book.admit.Goals as goal
 
 pub invariant_of-self-2 : goal.invariant_of-self-2
@@ -16,10 +17,12 @@ invariant_of-self-2 c =
     let id = c.count.result + 1 in
     let e = entry.Admit id in
     let grown = c.push.ensures.past ∙ ap (λ x. e ∷ x) c.reserve.ensures.past in
+    let goes = subst (λ (b : BookState). IsAccepted b.limits b.past Admit) (sym c.self.view_is)
+    c.requires.accepted in
     let agreed = subst (λ (s : ConnectionsState). Agrees l (e ∷ past) i.stores.space i.stores.table
     i.stores.prefixes s.items) (sym c.in_ok-admit.ensures.ok)
     (agrees_admit l past i.stores.space i.stores.table i.stores.prefixes cs
-    c.self.invariant.agrees id (ap (λ n. n + 1) c.count.ensures.count)) in
+    c.self.invariant.agrees id goes (ap (λ n. n + 1) c.count.ensures.count)) in
     let room = subst (λ (s : ConnectionsState). HasRoom (i.log.closable + 1) s.items)
     (sym c.in_ok-admit.ensures.ok)
     (room_admit i.log.closable cs c.self.invariant.room) in
@@ -32,6 +35,9 @@ invariant_of-self-2 c =
       none_lost =
           ap (λ (s : ConnectionsState). s.lost) c.in_ok-admit.ensures.ok
           ∙ c.self.invariant.none_lost;
+      stopped_is =
+          c.self.invariant.stopped_is ∙ sym (stopped_admit l past id)
+          ∙ sym (ap (is_stopped l) grown);
     }
 
 pub returns-clause-ok : goal.returns-clause-ok
@@ -48,9 +54,15 @@ returns-clause-ok c =
     let grown = c.push.ensures.past ∙ ap (λ x. e ∷ x) c.reserve.ensures.past in
     let none : i.stores.connections.posts ≡ [] = ap (λ (b : BookState). b.posts) c.self.view_is
     ∙ c.requires.none.posts in
+    let goes = subst (λ (b : BookState). IsAccepted b.limits b.past Admit) (sym c.self.view_is)
+    c.requires.accepted in
     is_turn c.args.self.now l past c.push.new.self.past i.stores.connections.posts
-    c.admit.new.self.posts i.effect _ e Admit _ c.self.view_is tt grown
-    (admit_turned l past n id number (omega (arith, c.count.ensures.count, k.count)))
+    c.admit.new.self.posts i.stores.connections.drops c.admit.new.self.drops i.effect _ e Admit _
+    c.self.view_is tt grown
+    (admit_turned l past n id goes number (omega (arith, c.count.ensures.count, k.count)))
     (ap (λ (s : ConnectionsState). s.posts) c.in_ok-admit.ensures.ok ∙ none
     ∙ posted_admit l past id)
+    (ap (λ (s : ConnectionsState). s.drops) c.in_ok-admit.ensures.ok
+    ∙ ap (λ (b : BookState). b.drops) c.self.view_is ∙ c.requires.none.drops
+    ∙ dropped_admit l past id)
     (ap Some c.bare_effect.ensures ∙ effect_admit l past id n number)

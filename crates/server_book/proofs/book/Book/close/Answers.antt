@@ -3,13 +3,15 @@ use Rattle.server_book.specs.Places.{Connection}
 use Rattle.server_book.specs.Sendings.{end_posts}
 use Rattle.track_table.specs.Table.{TableState, without_connection}
 use Rattle.prefix_table.specs.Table as registrations
+use Rattle.serial_model.specs.History.{is_stopped}
 use Rattle.serial_model.specs.declared.history.Entry.TheVariants as entry
 use Rattle.serial_model.specs.declared.history.BookCall.TheVariants.{Close}
 use Rattle.server_book.specs.BookState.{BookState, IsAccepted, Agrees, HasRoom}
 use Rattle.server_book.specs.Connections.{ConnectionsState}
 use Rattle.server_book.proofs.BookTurns.{agrees_as, agrees_close, close_turned, is_id, is_turn}
 use Rattle.server_book.proofs.BookTurns.{open_at, posted_close, prefixes_close, room_close}
-use Rattle.server_book.proofs.BookTurns.{effect_close, kept_of, reads_there, table_close}
+use Rattle.server_book.proofs.BookTurns.{dropped_close, effect_close, kept_of, reads_there}
+use Rattle.server_book.proofs.BookTurns.{stopped_close, table_close}
 use Rattle.server_book.proofs.book.Book.close.Goals as goal
 
 pub invariant_of-self : goal.invariant_of-self
@@ -51,6 +53,9 @@ invariant_of-self c =
       none_lost =
           ap (λ (s : ConnectionsState). s.lost) (c.forget.ensures.connections ∙ c.close.ensures)
           ∙ c.self.invariant.none_lost;
+      stopped_is =
+          c.self.invariant.stopped_is ∙ sym (stopped_close i.limits past id)
+          ∙ sym (ap (is_stopped i.limits) c.push.ensures.past);
     }
 
 pub returns : goal.returns
@@ -67,9 +72,13 @@ returns c =
     let kept = kept_of l past i.stores.space i.stores.table i.stores.prefixes cs k id
     (reads_there l past i.stores.space i.stores.table i.stores.prefixes cs k id on) in
     is_turn c.args.self.now l past c.push.new.self.past i.stores.connections.posts
-    c.forget.new.self.connections.posts i.effect _ (entry.Close id) (Close id) _ c.self.view_is tt
+    c.forget.new.self.connections.posts i.stores.connections.drops
+    c.forget.new.self.connections.drops i.effect _ (entry.Close id) (Close id) _ c.self.view_is tt
     c.push.ensures.past (close_turned l past id n on c.next-entry.ensures)
     (ap (λ (s : ConnectionsState). s.posts) (c.forget.ensures.connections ∙ c.close.ensures)
     ∙ ap (λ (x : Connection). end_posts n id x.standing) kept
     ∙ posted_close l past id n c.next-entry.ensures)
+    (ap (λ (s : ConnectionsState). s.drops) (c.forget.ensures.connections ∙ c.close.ensures)
+    ∙ ap (λ (b : BookState). b.drops) c.self.view_is ∙ c.requires.none.drops
+    ∙ dropped_close l past id)
     (ap Some c.bare_effect.ensures ∙ effect_close l past id n c.next-entry.ensures)

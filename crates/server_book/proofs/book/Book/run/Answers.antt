@@ -43,7 +43,7 @@ returns-clause-ok c =
         id = id;
         command = command;
         expired = done.expired;
-        reply = Some done.reply;
+        reply = done.reply;
         signalled = done.signalled;
         kind = kind.Run;
       });

@@ -2,12 +2,13 @@ use Rattle.std.proofs.Common.{◌≡◌, ◌+◌, ◌-◌, ◌<◌, ◌∷◌, [
 use Rattle.std.proofs.Common.{◌∙◌, arith, length-set, Some}
 use Rattle.serial_model.specs.declared.history.Entry.TheVariants as entry
 use Rattle.serial_model.specs.declared.history.BookCall.TheVariants.{Take}
-use Rattle.serial_model.specs.History.{unsent}
+use Rattle.serial_model.specs.History.{is_stopped, unsent}
 use Rattle.server_book.specs.BookState.{BookState, HasRoom, IsAccepted, Agrees}
 use Rattle.server_book.specs.Connections.{ConnectionsState}
 use Rattle.server_book.specs.Places.{Connection}
 use Rattle.server_book.proofs.BookTurns.{kept_of, is_turn, agrees_take, room_kept, take_turned}
-use Rattle.server_book.proofs.BookTurns.{effect_take, posted_take, gives_there, take_stands}
+use Rattle.server_book.proofs.BookTurns.{dropped_take, effect_take, posted_take, gives_there}
+use Rattle.server_book.proofs.BookTurns.{stopped_take, take_stands}
 use Rattle.server_book.proofs.Refusals.{take_some, takes_some}
 use Rattle.server_book.proofs.book.Book.take.Goals as goal
 
@@ -38,6 +39,9 @@ invariant_of-self-2 c =
           c.self.invariant.room);
       none_lost =
           ap (λ (s : ConnectionsState). s.lost) c.advance.ensures ∙ c.self.invariant.none_lost;
+      stopped_is =
+          c.self.invariant.stopped_is ∙ sym (stopped_take i.limits past c.args.id c.args.most)
+          ∙ sym (ap (is_stopped i.limits) grown);
     }
 
 pub returns-clause-ok : goal.returns-clause-ok
@@ -63,11 +67,15 @@ returns-clause-ok c =
     let none : i.stores.connections.posts ≡ [] = ap (λ (b : BookState). b.posts) c.self.view_is
     ∙ c.requires.none.posts in
     is_turn c.args.self.now l past c.push.new.self.past i.stores.connections.posts
-    c.advance.new.self.posts i.effect _ e (Take id most) _ c.self.view_is tt grown
+    c.advance.new.self.posts i.stores.connections.drops c.advance.new.self.drops i.effect _ e
+    (Take id most) _ c.self.view_is tt grown
     (take_turned l past id most n c.in_ok-bytes.bytes acc.0 number given
     (subst (λ (bytes : List ℕ). 0 < length bytes) (sym given)
     (take_some most (unsent l id past) c.requires.most acc.1)))
     (ap (λ (s : ConnectionsState). s.posts) c.advance.ensures ∙ none
     ∙ posted_take l past id most)
+    (ap (λ (s : ConnectionsState). s.drops) c.advance.ensures
+    ∙ ap (λ (b : BookState). b.drops) c.self.view_is ∙ c.requires.none.drops
+    ∙ dropped_take l past id most)
     (ap Some c.bare_effect.ensures
     ∙ effect_take l past id most n _ number (grind (arith, given)))

@@ -1,8 +1,9 @@
 use Rattle.std.proofs.Common.{◌<◌, ◌-◌, length, arith, sym, ap, subst, ◌∙◌}
 use Rattle.std.proofs.lemmas.List.{get_or_read}
-use Rattle.server_book.specs.Connections.{ArePosted}
+use Rattle.server_book.specs.Connections.{ArePosted, has_life}
 use Rattle.server_book.specs.Places.{fresh}
 use Rattle.server_book.specs.Sendings.{before_posts}
+use Rattle.server_book.proofs.Lives.{live_put}
 use Rattle.server_book.proofs.Sendings.{posted_last, posted_set, before_last, unqueued_is}
 use Rattle.server_book.proofs.connections.Connections.take_back.Goals as goal
 
@@ -24,7 +25,7 @@ posts-preserved c =
     let read = c.index_mut-connection.ensures.value in
     let there = get_or_read items (post.id - 1) at lt read fresh in (
       posted_set items (post.id - 1) _ left last.0,
-      omega (arith, c.posts.invariant.1, c.in-Some.ensures.capacity),
+      omega (arith, c.posts.invariant.1, c.pop.ensures.capacity, c.in-Some.ensures.len),
       c.posts.invariant.2,
       ap (before_posts left) (unqueued_is items post at c.keep.new.self c.saturating_sub-left.result
           there
@@ -38,6 +39,11 @@ posts-preserved c =
           ∙ sym (before_last left post items)
           ∙ ap (λ ps. before_posts ps items) (sym c.in-Some.ensures.items)
           ∙ c.posts.invariant.3,
+      c.posts.invariant.4
+          ∙ sym (live_put items (post.id - 1) c.keep.new.self lt
+          (ap has_life c.keep.ensures ∙ ap has_life there)),
+      c.posts.invariant.5,
+      c.posts.invariant.6,
     )
 
 pub invariant_of-self : goal.invariant_of-self

@@ -1,35 +1,35 @@
-use Rattle.std.proofs.Common.{◌∙◌, arith, append-nil, inl, inr, refl}
+use Rattle.std.proofs.Common.{◌∙◌, arith, append-nil, refl}
 use Rattle.serial_model.proofs.TableSize.{without_keys_within, without_within}
-use Rattle.server_book.specs.declared.deed.Deed.TheVariants.{Become, Forget, Nothing, Quit, Track}
+use Rattle.server_book.specs.declared.deed.Deed.TheVariants.{Forget, Track}
 use Rattle.server_book.proofs.PrefixGroups.{nothing_told}
-use Rattle.server_book.proofs.QuietDeeds.{deed_ends, deed_quiet}
+use Rattle.server_book.proofs.QuietDeeds.{deed_quiet, deed_still}
 use Rattle.server_book.proofs.Remembered.{same_table, short_dropped}
-use Rattle.server_book.proofs.Sendings.{on_ok, on_ok_then}
+use Rattle.server_book.proofs.Sendings.{on_ok}
 use Rattle.server_book.proofs.stores.Stores.carry_out.Goals as goal
 
 pub returns-in-Nothing-clause-sent : goal.returns-in-Nothing-clause-sent
 returns-in-Nothing-clause-sent c =
     let s = c.args.self.now in
-    elim c.in-Nothing.is [
-      | inl is ↦
-          deed_quiet c.args.entry c.args.id c.args.deed.now Nothing s.table s.prefixes
-          s.connections is refl refl c.requires.held.short
-      | inr is ↦
-          deed_quiet c.args.entry c.args.id c.args.deed.now (Become is.0) s.table s.prefixes
-          s.connections is.1 refl refl c.requires.held.short
-    ]
+    deed_still c.args.entry c.args.id c.args.deed.now s.table s.prefixes s.connections
+    c.in-Nothing.is c.requires.held.short
 
 pub returns-in-Nothing-2-clause-sent : goal.returns-in-Nothing-2-clause-sent
 returns-in-Nothing-2-clause-sent c =
     let s = c.args.self.now in
-    elim c.in-Nothing.is [
-      | inl is ↦
-          deed_quiet c.args.entry c.args.id c.args.deed.now Nothing s.table s.prefixes
-          s.connections is refl refl c.requires.held.short
-      | inr is ↦
-          deed_quiet c.args.entry c.args.id c.args.deed.now (Become is.0) s.table s.prefixes
-          s.connections is.1 refl refl c.requires.held.short
-    ]
+    deed_still c.args.entry c.args.id c.args.deed.now s.table s.prefixes s.connections
+    c.in-Nothing.is c.requires.held.short
+
+pub returns-in-Nothing-3-clause-sent : goal.returns-in-Nothing-3-clause-sent
+returns-in-Nothing-3-clause-sent c =
+    let s = c.args.self.now in
+    deed_still c.args.entry c.args.id c.args.deed.now s.table s.prefixes s.connections
+    c.in-Nothing.is c.requires.held.short
+
+pub returns-in-Nothing-4-clause-sent : goal.returns-in-Nothing-4-clause-sent
+returns-in-Nothing-4-clause-sent c =
+    let s = c.args.self.now in
+    deed_still c.args.entry c.args.id c.args.deed.now s.table s.prefixes s.connections
+    c.in-Nothing.is c.requires.held.short
 
 pub returns-in-Tell-clause-table : goal.returns-in-Tell-clause-table
 returns-in-Tell-clause-table c = grind (arith, without_keys_within)
@@ -55,22 +55,12 @@ returns-in-Forget-clause-sent c =
     let short = c.requires.held.short in
     c.forget.ensures.connections
     ∙ deed_quiet c.args.entry c.args.id c.args.deed.now (Forget c.in-Forget.field-0) s.table
-    s.prefixes s.connections c.in-Forget.is refl refl
+    s.prefixes s.connections c.in-Forget.is refl
     (omega (arith, short, without_within c.args.id s.table.rows))
-
-pub returns-in-Quit-clause-table : goal.returns-in-Quit-clause-table
-returns-in-Quit-clause-table c = grind (arith, same_table)
-
-pub returns-in-Quit-clause-sent : goal.returns-in-Quit-clause-sent
-returns-in-Quit-clause-sent c =
-    let s = c.args.self.now in
-    on_ok_then c.end.result _ _
-    (λ sent. sent ∙ deed_ends c.args.entry c.args.id c.args.deed.now Quit s.table s.prefixes
-    s.connections c.in-Quit.is refl c.requires.held.short refl) c.end.ensures.sent
 
 pub returns-in-Track-clause-sent : goal.returns-in-Track-clause-sent
 returns-in-Track-clause-sent c =
     let s = c.args.self.now in
     on_ok c.add_all.result _
     (deed_quiet c.args.entry c.args.id c.args.deed.now (Track c.in-Track.mode) s.table s.prefixes
-    s.connections c.in-Track.is refl refl c.requires.held.short)
+    s.connections c.in-Track.is refl c.requires.held.short)

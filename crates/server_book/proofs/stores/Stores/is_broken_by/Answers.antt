@@ -16,6 +16,7 @@ returns-in-Ok-clause-connections c =
     ∙ back_to s.connections c.tell_keys.new.self.connections
     (ap (λ (x : ConnectionsState). before_posts x.posts x.items) c.in-Ok.ensures.told
     ∙ before_told 0 (unpassed None group) s.connections) c.requires.none c.requires.none_lost
+    c.requires.none_dropped
 
 pub returns-in-Ok-clause-broken : goal.returns-in-Ok-clause-broken
 returns-in-Ok-clause-broken c =

@@ -44,9 +44,3 @@ renew-requires-in-Forget-clause-open c =
     let old = c.args.self.now.connections in
     subst (λ (s : ConnectionsState). IsOpen s.items c.args.id) (sym c.mark_lost.ensures)
     (open_marked old.lost old.items c.args.id c.requires.open)
-
-pub quit-requires : goal.quit-requires
-quit-requires c =
-    let old = c.args.self.now.connections in
-    subst (λ (s : ConnectionsState). IsOpen s.items c.args.id) (sym c.mark_lost.ensures)
-    (open_marked old.lost old.items c.args.id c.requires.open)

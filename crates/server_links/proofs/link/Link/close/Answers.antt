@@ -21,7 +21,7 @@ unfolding close
 returns-in_err-turn c =
     let s = session c.args.server.now c.args.self.now in
     let same = server_turned c.args.server.now c.turn.new.self c.args.self.now c.turn.ensures.limits
-    c.turn.ensures.clock in
+    c.turn.ensures.clock c.turn.ensures.names in
     let p = err_from_is_err_and c.from_residual-in_err-turn.result
     c.from_residual-in_err-turn.ensures.1 in
     rw p.1 (rw p.2
@@ -37,7 +37,7 @@ returns c =
     let is = close_line s.limits s.past c.turn.new.self.book.past s.link.id c.in_ok-turn.field-0
     s.link.name c.requires g.0 in
     rw (server_turned c.args.server.now c.turn.new.self c.args.self.now c.turn.ensures.limits
-    c.turn.ensures.clock)
+    c.turn.ensures.clock c.turn.ensures.names)
     (turn_gives s (call.Close c.args.self.now.id) [] c.turn.new.self.book.past _ c.args.lines.now
     c.turn.new.lines c.in_ok-turn.field-0 g
     (is ∙ cc (c.in_ok-next_entry.ensures, c.in_ok-copy.ensures)))

@@ -28,7 +28,7 @@ pub returns-in_err-turn : goal.returns-in_err-turn
 returns-in_err-turn c =
     let s = session c.args.server.now c.args.self.now in
     let same = server_turned c.args.server.now c.turn.new.self c.args.self.now c.turn.ensures.limits
-    c.turn.ensures.clock in
+    c.turn.ensures.clock c.turn.ensures.names in
     let p = err_from_is_err_and c.from_residual-in_err-turn.result
     c.from_residual-in_err-turn.ensures.1 in
     let words = c.args.words in
@@ -50,7 +50,7 @@ returns c =
     let is = run_line s.limits s.past c.turn.new.self.book.past s.link.id c.in_ok-turn.field-0
     c.clock-now.result words s.link.name (sym c.runs_on.ensures ∙ c.if-not-runs_on.false) g.0 in
     rw (server_turned c.args.server.now c.turn.new.self c.args.self.now c.turn.ensures.limits
-    c.turn.ensures.clock)
+    c.turn.ensures.clock c.turn.ensures.names)
     (subst (λ n. Ends (turn (call.Run id words n) words s) c.args.lines.now
     (with_past s c.turn.new.self.book.past) c.turn.new.lines) c.clock-now.ensures
     (turn_gives s (call.Run id words c.clock-now.result) words

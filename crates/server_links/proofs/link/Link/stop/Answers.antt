@@ -1,22 +1,14 @@
-use Rattle.std.proofs.Common.{arith}
-use Rattle.std.proofs.lemmas.Result.{err_from_is_err_and}
+use Rattle.std.proofs.Common.{◌∙◌, append-nil, refl, sym}
 use Rattle.server_links.specs.Session.{session}
-use Rattle.server_links.proofs.Playing.{stop_before, stop_gives}
+use Rattle.server_links.proofs.Playing.{stop_off, stop_on}
 use Rattle.server_links.proofs.link.Link.stop.Goals as goal
 
-pub returns-in_err-copy-in-Some : goal.returns-in_err-copy-in-Some
-returns-in_err-copy-in-Some c =
-    let p = err_from_is_err_and c.from_residual.result c.from_residual.ensures.1 in
-    rw p.1 (rw p.2 (stop_before c.args.fault _ c.args.eof
-    (session c.args.server.now c.args.self.now) c.args.lines.now c.in-Some.is))
+pub returns-then-reads_on : goal.returns-then-reads_on
+returns-then-reads_on c =
+    rw (stop_on c.args.fault c.args.eof (session c.args.server.now c.args.self.now)
+    (sym c.reads_on.ensures ∙ c.if-reads_on.true)) c.stop_open.ensures
 
-pub returns-in_err-push-in-Some : goal.returns-in_err-push-in-Some
-returns-in_err-push-in-Some c =
-    let p = err_from_is_err_and c.from_residual-in_err-push-in-Some.result
-    c.from_residual-in_err-push-in-Some.ensures.1 in
-    rw p.1 (rw p.2 (rw c.in_err-push-in-Some.ensures.err
-    (stop_before c.args.fault _ c.args.eof (session c.args.server.now c.args.self.now)
-    c.args.lines.now c.in-Some.is)))
-
-pub returns-in_ok-push-in-Some : goal.returns-in_ok-push-in-Some
-returns-in_ok-push-in-Some c = grind (arith, stop_gives)
+pub returns : goal.returns
+returns c =
+    rw (stop_off c.args.fault c.args.eof (session c.args.server.now c.args.self.now)
+    (sym c.reads_on.ensures ∙ c.if-reads_on.false)) (refl, refl, sym (append-nil c.args.lines.now))

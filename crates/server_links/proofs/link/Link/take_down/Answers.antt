@@ -33,7 +33,7 @@ returns-in_err-bytes c =
     c.from_residual-in_err-bytes.ensures.1 in
     rw p.1 (rw p.2
     (rw (server_turned c.args.server.now c.turn.new.self c.args.self.now c.turn.ensures.limits
-    c.turn.ensures.clock)
+    c.turn.ensures.clock c.turn.ensures.names)
     (take_stops c.args.most (session c.args.server.now c.args.self.now) c.args.lines.now
     c.turn.new.self.book.past
     (line.Take c.in_ok-next_entry.field-0 c.in_ok-copy.field-0 c.min-count.result) c.turn.new.lines
@@ -60,7 +60,7 @@ returns-in_err-put-in-Bytes c =
     c.from_residual-in_err-put-in-Bytes.ensures.1 in
     rw p.1 (rw p.2 (rw c.in_err-put-in-Bytes.ensures.err
     (rw (server_turned c.args.server.now c.turn.new.self c.args.self.now c.turn.ensures.limits
-    c.turn.ensures.clock)
+    c.turn.ensures.clock c.turn.ensures.names)
     (take_short c.args.most s c.args.lines.now c.turn.new.self.book.past _ c.turn.new.lines
     c.in_ok-bytes.field-0 g
     (grind arith)))))
@@ -77,7 +77,7 @@ returns c =
     grind arith in
     rw (ap (λ x. with_link x (with_down c.args.self.now c.put.new.self))
     (server_turned c.args.server.now c.turn.new.self c.args.self.now c.turn.ensures.limits
-    c.turn.ensures.clock))
+    c.turn.ensures.clock c.turn.ensures.names))
     (take_gives c.args.most s c.args.lines.now c.turn.new.self.book.past _ c.turn.new.lines
     c.in_ok-bytes.field-0 g
     (grind arith)

@@ -12,4 +12,5 @@ invariant_of-self c = (
       (words_kept i.book.limits i.book.past i.notes.trails _ was),
   c.self.invariant.1,
   c.self.invariant.2,
+  c.self.invariant.3,
 )

@@ -9,7 +9,7 @@ use Rattle.server_links.proofs.server_links.ServerLinks.place_of.Goals as goal
 pub returns : goal.returns
 returns c =
     let i = c.self.inside in
-    c.place.ensures
-    ∙ ap (λ s. position (λ n. bytes_eq n s) i.names) c.as_slice.ensures
-    ∙ name_place i.names (world i.server i.links.items) c.self.invariant.1 c.args.name.now
+    c.place_of.ensures
+    ∙ ap (λ s. position (λ n. bytes_eq n s) i.server.names) c.as_slice.ensures
+    ∙ name_place i.server.names (world i.server i.links.items) c.self.invariant.1 c.args.name.now
     ∙ ap (place_of c.args.name.now) c.self.view_is

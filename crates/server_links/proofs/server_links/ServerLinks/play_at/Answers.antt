@@ -14,9 +14,10 @@ invariant_of-self c =
     subst (λ (w : LinksState). c.args.at < length w.links) (sym c.self.view_is) c.requires in
     let name = (at_place i.links.items c.args.at).name in
     step_stands name (Over name c.args.movement) refl i.server i.links.items c.args.at
-    (own_place i.names (world i.server i.links.items) c.self.invariant.1 c.args.at below)
+    (own_place i.server.names (world i.server i.links.items) c.self.invariant.1 c.args.at below)
     below c.play.new.server c.index_mut.result.now c.play.new.self c.index_mut.ensures.value
-    c.args.lines.now c.play.result c.play.new.lines c.play.ensures i.names c.self.invariant
+    c.self.invariant.1.all c.args.lines.now c.play.result c.play.new.lines c.play.ensures
+    c.self.invariant
 
 pub returns : goal.returns
 returns c =
@@ -29,6 +30,6 @@ returns c =
     (world c.play.new.server (slice_set i.links.items c.args.at c.play.new.self))
     c.play.new.lines) c.self.view_is
     (step_gives name (Over name c.args.movement) refl i.server i.links.items c.args.at
-    (own_place i.names (world i.server i.links.items) c.self.invariant.1 c.args.at below)
+    (own_place i.server.names (world i.server i.links.items) c.self.invariant.1 c.args.at below)
     below c.play.new.server c.index_mut.result.now c.play.new.self c.index_mut.ensures.value
-    c.args.lines.now c.play.result c.play.new.lines c.play.ensures)
+    c.self.invariant.1.all c.args.lines.now c.play.result c.play.new.lines c.play.ensures)

@@ -30,8 +30,8 @@ invariant_of-self c =
     c.in-Some.at (fresh_link 0 []) place).0 in
     step_stands c.args.name.now e refl i.server i.links.items c.in-Some.at place
     below i.server c.index_mut.result.now c.put.new.self c.index_mut.ensures.value
-    c.args.lines.now c.put.result c.args.lines.now
-    (c.put.ensures (session i.server c.index_mut.result.now) c.args.lines.now) i.names
+    c.self.invariant.1.all c.args.lines.now c.put.result c.args.lines.now
+    (c.put.ensures (session i.server c.index_mut.result.now) c.args.lines.now)
     c.self.invariant
 
 pub returns : goal.returns
@@ -48,5 +48,5 @@ returns c =
     (step_gives c.args.name.now e refl i.server i.links.items c.in-Some.at
     place below i.server c.index_mut.result.now c.put.new.self
     c.index_mut.ensures.value
-    c.args.lines.now c.put.result c.args.lines.now
+    c.self.invariant.1.all c.args.lines.now c.put.result c.args.lines.now
     (c.put.ensures (session i.server c.index_mut.result.now) c.args.lines.now))

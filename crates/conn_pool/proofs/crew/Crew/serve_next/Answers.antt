@@ -1,0 +1,29 @@
+use Rattle.std.proofs.Common.{◌≡◌, ◌∷◌, ◌++◌, [], length, sym, ap, subst, ◌∙◌, arith, length-append}
+use Rattle.seat_turns.specs.Own.{turns_of}
+use Rattle.conn_pool.specs.Ties.{Tied}
+use Rattle.conn_pool.specs.Shown.{AreShown}
+use Rattle.conn_pool.proofs.Leaving.{shown_look, tied_look}
+use Rattle.conn_pool.proofs.Tying.{tied_visit, shown_after, visit_within}
+use Rattle.conn_pool.proofs.crew.Crew.serve_next.Goals as goal
+
+pub invariant_of-self-in-Link : goal.invariant_of-self-in-Link
+invariant_of-self-in-Link g c =
+    let inv = c.self.invariant in
+    let clock = g.C.Clock.moment c.args.clock.now in
+    let r = c.serve_link-report.result in
+    let v = c.serve_link-report.ensures.visit in
+    let look = c.finds_stop.ensures.looks in
+    let old = c.finds_stop.new.seat in
+    let new = c.serve_link-report.new.seat in
+    let had = c.self.inside.reports.items in
+    let more : c.push_reserved.new.self.items ≡ had ++ r ∷ [] =
+    c.push_reserved.ensures.items ∙ ap (λ z. z ++ r ∷ []) c.reserve.ensures.items in
+    let long = ap length more ∙ length-append had (r ∷ []) in
+    let mine = c.in-Link.ensures.mine in (
+      visit_within clock r _ _ _ _ old new v,
+      (λ kept. let links = inv.1 kept in omega (arith, mine, long, links)),
+      (λ kept. subst (λ rs. Tied rs (turns_of new)) (sym more)
+          (tied_visit clock had r _ _ _ _ old new (tied_look _ old look had (inv.2 kept)) v)),
+      (λ kept. subst (λ rs. AreShown rs new) (sym more)
+          (shown_after clock had r _ _ _ _ old new (shown_look _ old look had (inv.3 kept)) v)),
+    )
