@@ -1,6 +1,7 @@
 //! Tests of schedules: their text, and what a world prints beside a slow reference player.
 mod cuts;
 mod drops;
+mod effects;
 mod modes;
 mod redirection;
 mod reference_client;

@@ -1,0 +1,11 @@
+pub mod Told
+pub mod Groups
+pub mod Numbers
+pub mod Kept
+pub mod Following
+pub mod Ids
+pub mod Messages
+pub mod Settling
+pub mod Acting
+pub mod Entries
+pub mod Pasts
