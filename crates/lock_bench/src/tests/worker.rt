@@ -143,8 +143,7 @@ QUIT_a;GET_a; = 100 = 100 = PeerEnd 2 in 1 = \
 SHUTDOWN; = 100 = 100 = Dropped 1 in 0 = 
 PING;,shutdown_nosave; = 100 = 100 = Dropped 2 in 1 = +PONG;
 PING;SHUTDOWN;PING;QUIT; = 100 = 100 = Dropped 2 in 0 = 
-SUBSCRIBE_a;SHUTDOWN; = 100 = 100 = PeerEnd 2 in 1 = \
-    *3;$9;subscribe;$1;a;:1;-ERR not allowed while subscribed;";
+SHUTDOWN_a;GET_a; = 100 = 100 = PeerEnd 2 in 1 = -ERR syntax error;$-1;";
 
 fn link_of(alloc: Global, steps: &str, room: usize) -> Result<CountedLink, AllocError> {
     let Ok(link) = MemoryLink::new(alloc, room, steps_of(alloc, steps)?) else {
