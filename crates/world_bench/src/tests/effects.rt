@@ -146,17 +146,41 @@ fn play_line(
     Ok(goes_on)
 }
 
+// Plays the lines of a schedule, up to the first that meets a fault, and looks for what was sent.
+fn finds(
+    alloc: Global,
+    limits: &Limits,
+    world: &mut World,
+    replay: &mut Replay,
+    schedule: &str,
+) -> Result<bool, NoMemory>
+    requires { AreValid limits.now }
+{
+    for line in schedule.split(';') {
+        if !play_line(alloc, world, replay, line)? {
+            break;
+        }
+    }
+    replay.is_found(alloc, limits)
+}
+
+fn finds_by_replay(
+    alloc: Global,
+    limits: Limits,
+    world: &mut World,
+    schedule: &str,
+) -> Result<bool, NoMemory>
+    requires { AreValid limits }
+{
+    let mut replay = Replay::new(alloc, limits)?;
+    finds(alloc, &limits, world, &mut replay, schedule)
+}
+
 fn is_found(alloc: Global, limits: Limits, schedule: &str) -> Result<bool, NoMemory>
     requires { AreValid limits }
 {
     let mut world = World::new(alloc, limits)?;
-    let mut replay = Replay::new(alloc, limits)?;
-    for line in schedule.split(';') {
-        if !play_line(alloc, &mut world, &mut replay, line)? {
-            break;
-        }
-    }
-    replay.is_found(alloc, &limits)
+    finds_by_replay(alloc, limits, &mut world, schedule)
 }
 
 fn are_found<R: Abort>(rt: &R, alloc: Global, limits: Limits, table: &str) -> Result<(), Fail>
