@@ -370,23 +370,3 @@ fn a_gate_is_told_of_each_request_and_of_those_that_were_answered(
     assert_eq!(rt; gate.answered.load(Ordering::SeqCst), 3);
     Ok(())
 }
-
-#[test]
-fn behind_a_shutdown_no_connection_is_admitted(rt: HostRuntime) -> Result<(), Fail> {
-    let limits = Limits {
-        table_max: 100,
-        out_max: 1_000_000,
-        history_max: 100,
-    };
-    let clock = FixedClock { ms: 7 };
-    let gate = counting_gate();
-    let (lock, mut seat) = open(rt.alloc(), limits)?;
-    for (steps, told, requests) in [("SHUTDOWN;", 103, 1), ("GET_a;", 9, 0)] {
-        let mut link = link_of(rt.alloc(), steps, 100)?;
-        let report = serve_link(&rt, rt.alloc(), &lock, &mut seat, &mut link, &clock, &gate);
-        assert_eq!(rt; gate.ended.load(Ordering::SeqCst), told);
-        assert_eq!(rt; report.requests, requests);
-        assert!(rt; link.link.bytes().is_empty());
-    }
-    Ok(())
-}
