@@ -24,7 +24,7 @@ use Rattle.currency.proofs.Routes.{own_way}
 use Rattle.currency.proofs.Runs.{Older}
 use Rattle.currency.proofs.Sent.{Told, is_sent_to, routed_at, sent_le, sent_older}
 use Rattle.currency.proofs.Replies as replies
-use Rattle.currency.proofs.Replies.{is_reply_at, routed_no_reply, run_sends_are}
+use Rattle.currency.proofs.Replies.{run_sends_are}
 
 -- none of those passes the test
 none_kept : {A : Type 0} (p : A → Bool) (xs : List A) → filter p xs ≡ [] → (i : ℕ) (y : A)
@@ -36,7 +36,9 @@ none_kept p (x ∷ xs) e (suc i) y at = grind (arith, common_steps, none_kept p 
 -- a Run of a connection that has not ended
 module _ (c : ℕ) (l : Limits) (past up : List Entry) (id : ℕ) (words : List (List ℕ)) (m : ℕ)
     (o : Older (Run id words m ∷ up) past) (legal : IsLegal l up) (on : runs_on l up id ≡ true)
-    (off : (mode l c up).subscribed ≡ false) where
+    (is_reply_at : ℕ × Sending → Bool)
+    (none : filter is_reply_at (sent_to (length up + 1) c
+    (routed (state l up).modes (is_on (state l up)) (expiry_group l up m))) ≡ []) where
   abbrev n : ℕ
   n = length up + 1
 
@@ -83,9 +85,8 @@ module _ (c : ℕ) (l : Limits) (past up : List Entry) (id : ℕ) (words : List 
         | inr b ↦
             elim (get_parts early late b.at s b.there) [
               | inl e ↦
-                  absurd (both_ways (is_reply_at s)
-                  (none_kept is_reply_at early
-                  (routed_no_reply n c now.modes off (is_on now) told) b.at s e) reply)
+                  absurd (both_ways (is_reply_at s) (none_kept is_reply_at early none b.at s e)
+                  reply)
               | inr d ↦ omega (arith, b.is, d.is)
             ]
       ]
@@ -115,7 +116,7 @@ module _ (c : ℕ) (l : Limits) (past up : List Entry) (id : ℕ) (words : List 
       → track.is_on (mode l c up).tracking ≡ true → IsDirect (mode l c up)
       → (place : ℕ) (s : ℕ × Sending)
       → slice_get (sent l c past) place ≡ Some s → s.0 ≡ n → is_reply_at s ≡ true
-      → (t : Told c l (Run id words m ∷ up) n key) × (t.place < place)
+      → (t : Told c l Three (Run id words m ∷ up) n key) × (t.place < place)
   told_ahead key due tracks direct place s at number reply =
       let p = one_passes (tells c key) told due in
       let h = and_parts (p.one.to == c) (names_key p.one.keys key) p.passes in

@@ -59,9 +59,8 @@ use Rattle.currency.specs.Links.{Client, IsGot, is_reply_sent, is_single, traffi
 use Rattle.currency.specs.Current.{fetch_on}
 use Rattle.currency.proofs.Covers.{IsToldOf}
 use Rattle.currency.proofs.Numbered.{next}
-use Rattle.currency.proofs.OffChannel.{KeepsOff}
 use Rattle.currency.proofs.Placed.{reply_at}
-use Rattle.currency.proofs.Replies.{replies_are_of_runs, reply_some}
+use Rattle.currency.proofs.Replies.{RepliesPass, replies_are_of_runs, reply_some}
 use Rattle.currency.proofs.Runs.{Older, RanAt, older_legal, older_tail, older_up_to, runs_there}
 
 -- ---- modes
@@ -228,7 +227,7 @@ pub record Read (l : Limits) (x : Client) (past : List Entry) (home : Wire) (h :
 
 module _ (l : Limits) (x : Client) (past : List Entry) (home : Wire) (watched : List Wire)
     (home_watched : In home watched) (legal : IsLegal l past)
-    (keeps : KeepsOff (x.id home) past) (h : CacheEntry)
+    (pass : RepliesPass (is_reply_sent x.setup.mode home) l (x.id home) past) (h : CacheEntry)
     (serves : reads_as_cacheable (served_reading h.query) ≡ true)
     (cacheable : reads_as_cacheable (reading h.query) ≡ true) where
   abbrev T : Traffic Wire LogEntry (List (List ℕ)) Value Sending
@@ -245,7 +244,7 @@ module _ (l : Limits) (x : Client) (past : List Entry) (home : Wire) (watched : 
       (settings : (up : List Entry) → AsAsked up → (mode l (x.id home) up).tracking ≡ asked)
       (protocols : (up : List Entry) → AsAsked up
       → (mode l (x.id home) up).proto ≡ x.setup.mode.proto)
-      (free : (up : List Entry) → AsAsked up → is_confined (mode l (x.id home) up) ≡ false)
+      (free : (up : List Entry) → Older up past → is_confined (mode l (x.id home) up) ≡ false)
       (landed : (e : Entry) (up : List Entry) → Older (e ∷ up) past
       → runs_on l up (x.id home) ≡ true
       → is_due l e up (x.id home) (key_of h.query) ≡ true → AsAsked up → AsAsked (e ∷ up)
@@ -269,7 +268,7 @@ module _ (l : Limits) (x : Client) (past : List Entry) (home : Wire) (watched : 
         → slice_get (runs_of (x.id home) past) (h.number - 1) ≡ Some h.query
         → (t : Read l x past home h AsAsked at)
         → AsAsked (up_to at past) → (s : ℕ × Sending) (v : Value)
-        → slice_get (filter (λ (s : ℕ × Sending). is_reply_sent s.1)
+        → slice_get (filter (λ (s : ℕ × Sending). is_reply_sent x.setup.mode home s.1)
         (sent l (x.id home) past)) (h.number - 1) ≡ Some s
         → IsGot v s.1
         → tree_of v ≡ carried x.setup.mode.proto (tree_of (answer h.query (keyspace l
@@ -278,7 +277,7 @@ module _ (l : Limits) (x : Client) (past : List Entry) (home : Wire) (watched : 
         let c = x.id home in
         let p = reply_at l c past (h.number - 1) s
         (ap (λ ss. slice_get ss (h.number - 1))
-        (sym (replies_are_of_runs l c past legal keeps)) ∙ e) in
+        (sym (replies_are_of_runs (is_reply_sent x.setup.mode home) l c past legal pass)) ∙ e) in
         let run = Run p.id p.words p.moment in
         let number : length p.up + 1 ≡ at =
         same_Some (length p.up + 1) at (sym p.entry ∙ ran) in
@@ -293,12 +292,11 @@ module _ (l : Limits) (x : Client) (past : List Entry) (home : Wire) (watched : 
         ap (λ (m : ModeState). m.proto) (sym (mode_own l c p.id p.moment p.words p.up p.own))
         ∙ ap (λ u. (mode l c u).proto) (sym all) ∙ protocols (up_to at past) good in
         let reads = sym (reply_some l p.up p.id p.words p.moment
-        (keeps p.id p.moment p.words p.up p.older p.own))
+        (pass.own p.id p.moment p.words p.up p.older p.own).goes_on)
         ∙ read_replies l p.id p.moment p.words p.up
         (ap (λ ws. reads_as_cacheable (served_reading ws)) words ∙ serves)
         (ap (λ d. is_confined (mode l d p.up)) (eqb-true p.id c p.own)
-        ∙ ap (λ u. is_confined (mode l c u)) (let same : p.up ≡ t.run.up = cc in same)
-        ∙ free t.run.up t.before) in
+        ∙ free p.up (older_tail run p.up past p.older)) in
         subst (IsGot v) p.reply got
         ∙ ap (λ o. carried o (tree_of (ran_of l p.up p.id p.words p.moment).reply)) fits
         ∙ ap (λ a. carried x.setup.mode.proto (tree_of a))
@@ -339,7 +337,8 @@ module _ (l : Limits) (x : Client) (past : List Entry) (home : Wire) (watched : 
           | inl remembered ↦
               let read = read_is_owed_or_told l c t.run.moment t.run.words up k legal_all
               (ap (λ ws. reads_as_cacheable (served_reading ws)) (words_are at t there) ∙ serves)
-              (free up t.before) remembered (ap key_of (words_are at t there)) in
+              (free up (older_tail e up past older)) remembered
+              (ap key_of (words_are at t there)) in
               elim (or_cases (is_told l (e ∷ up) c k || is_due l e up c k) (has_ended l c (e ∷ up))
               read) [
                 | inl rest ↦
@@ -459,7 +458,7 @@ module _ (l : Limits) (x : Client) (past : List Entry) (home : Wire) (watched : 
         → slice_get (run_entries (x.id home) past) j ≡ Some (suc r)
         → slice_get (runs_of (x.id home) past) j ≡ Some ws → writes ws (key_of h.query) ≡ false
         → slice_get (sent l (x.id home) past) i ≡ Some s → s.0 ≡ suc r
-        → is_reply_sent s.1 ≡ true
+        → is_reply_sent x.setup.mode home s.1 ≡ true
         → (F.answer (suc r) ≡ F.answer r) ⊎ ((t : ToldOn IsGot T F home (suc r)) × (t.place < i)))
         → EntryLaws IsGot T F (λ r. AsAsked (up_to r past)) (Read l x past home h AsAsked) at
     entry_laws_of at before = record {

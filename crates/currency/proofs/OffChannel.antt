@@ -1,10 +1,7 @@
 -- A connection whose commands are none of SUBSCRIBE, UNSUBSCRIBE and SHUTDOWN is never subscribed,
 -- so its mode allows each of its commands, and each has its reply.
-use Rattle.std.proofs.Common.{◌≡◌, ◌∙◌, ℕ, List, [], ◌∷◌, Bool, true, false, cond, refl, ap}
+use Rattle.std.proofs.Common.{◌≡◌, ◌∙◌, ℕ, List, Bool, true, false, cond, refl, ap}
 use Rattle.std.proofs.Common.{Option, Some, None, Result, Ok, Err, arith}
-use Rattle.std.specs.Prelude.{◌==◌}
-use Rattle.std.proofs.lemmas.Bool.{cases_Bool, eqb-true}
-use Rattle.std.proofs.Common.{inl, inr}
 use Rattle.command_words.specs.declared.command.Command.{Command}
 use Rattle.command_words.specs.declared.command.Command.TheVariants.{Shutdown, Subscribe}
 use Rattle.command_words.specs.declared.command.Command.TheVariants.{Unsubscribe}
@@ -17,15 +14,13 @@ use Rattle.track_modes.specs.Commands.{after_refusal, changed, ended, fault_at}
 use Rattle.track_modes.specs.ModeState.{ModeState}
 use Rattle.serial_model.specs.declared.history.Limits.{Limits}
 use Rattle.serial_model.specs.declared.history.Entry.{Entry}
-use Rattle.serial_model.specs.declared.history.Entry.TheVariants.{Admit, Run, Tick, Take, Close}
 use Rattle.serial_model.specs.Modes.{OwnEffect, Runner, is_barred, is_confined, own_effect}
 use Rattle.serial_model.specs.Modes.{is_stopping, refused_effect, unless_refused}
 use Rattle.serial_model.specs.History.{effect_of, ending_in, made_of, mode, ran_over, runner}
-use Rattle.serial_model.specs.History.{served, served_reading, state}
-use Rattle.serial_model.proofs.Ends.{mode_by_own_runs}
-use Rattle.serial_model.proofs.ModeSteps.{mode_other, mode_own}
+use Rattle.serial_model.specs.History.{served, served_reading}
 use Rattle.serial_model.proofs.ServedRows.{barred_error, none_barred}
-use Rattle.currency.proofs.Runs.{Older, older_all, older_more}
+use Rattle.currency.proofs.RunPlaces.{EachRun, by_runs, each_older}
+use Rattle.currency.proofs.Runs.{Older, older_all}
 
 -- words that no reply answers: pushes answer those of the channel, and nothing SHUTDOWN
 abbrev pub has_no_reply : Result Command WordFault → Bool
@@ -36,17 +31,11 @@ has_no_reply read = false
 
 -- no command that the connection ran is one
 abbrev pub KeepsOff : ℕ → List Entry → Type 0
-KeepsOff c past =
-    (id m : ℕ) (words : List (List ℕ)) (up : List Entry) → Older (Run id words m ∷ up) past
-    → (id == c) ≡ true → has_no_reply (reading words) ≡ false
+KeepsOff c past = EachRun (λ id m words up. has_no_reply (reading words) ≡ false) c past
 
 pub off_older : (c : ℕ) (up past : List Entry) → Older up past → KeepsOff c past → KeepsOff c up
-off_older c up past o h id m words sooner before own =
-    h id m words sooner (older_more (Run id words m ∷ sooner) up past before o) own
-
-pub off_tail : (c : ℕ) (e : Entry) (past : List Entry) → KeepsOff c (e ∷ past) → KeepsOff c past
-off_tail c e past h =
-    off_older c past (e ∷ past) (record { newer = e ∷ []; is = refl }) h
+off_older c up past o h =
+    each_older (λ id m words up. has_no_reply (reading words) ≡ false) c up past o h
 
 pub served_off : (read : Result Command WordFault) → has_no_reply read ≡ false
     → has_no_reply (served read) ≡ false
@@ -59,7 +48,7 @@ none_stops m read off = grind arith
 
 -- ---- a connection that is not subscribed may run each command
 
-unconfined : (m : ModeState) → m.subscribed ≡ false → is_confined m ≡ false
+pub unconfined : (m : ModeState) → m.subscribed ≡ false → is_confined m ≡ false
 unconfined m off = grind arith
 
 module _ (by : Runner) (words : List (List ℕ)) (off : by.mode.subscribed ≡ false) where
@@ -100,39 +89,12 @@ own_off by (Ok c) none off =
     unless_off (fault_at c by.target_exists by.mode) c by.mode none off
 own_off by (Err fault) none off = off
 
-module _ (l : Limits) (c : ℕ) where
-  by_other : (e : Entry) (past : List Entry) → mode l c (e ∷ past) ≡ mode l c past
-      → (mode l c past).subscribed ≡ false → (mode l c (e ∷ past)).subscribed ≡ false
-  by_other e past same off = ap (λ (m : ModeState). m.subscribed) same ∙ off
-
-  -- it is not subscribed
-  pub off_mode : (past : List Entry) → KeepsOff c past → (mode l c past).subscribed ≡ false
-  unfolding state
-  off_mode [] h = refl
-  off_mode (Run id words m ∷ past) h = elim (cases_Bool (id == c)) [
-    | inl own ↦
-        let by = runner l past id words m in
-        let before : by.mode.subscribed ≡ false =
-        ap (λ d. (mode l d past).subscribed) (eqb-true id c own)
-        ∙ off_mode past (off_tail c (Run id words m) past h) in
-        ap (λ (x : ModeState). x.subscribed) (mode_own l c id m words past own)
-        ∙ ap (λ (o : OwnEffect). o.mode.subscribed) (made_own by words before)
-        ∙ own_off by (served_reading words)
-        (served_off (reading words)
-        (h id m words past (older_all (Run id words m ∷ past)) own)) before
-    | inr other ↦
-        by_other (Run id words m) past (mode_other l c id m words past other)
-        (off_mode past (off_tail c (Run id words m) past h))
-  ]
-  off_mode (Admit id ∷ past) h =
-      by_other (Admit id) past (mode_by_own_runs l c (Admit id) past tt)
-      (off_mode past (off_tail c (Admit id) past h))
-  off_mode (Tick m ∷ past) h =
-      by_other (Tick m) past (mode_by_own_runs l c (Tick m) past tt)
-      (off_mode past (off_tail c (Tick m) past h))
-  off_mode (Take id max ∷ past) h =
-      by_other (Take id max) past (mode_by_own_runs l c (Take id max) past tt)
-      (off_mode past (off_tail c (Take id max) past h))
-  off_mode (Close id ∷ past) h =
-      by_other (Close id) past (mode_by_own_runs l c (Close id) past tt)
-      (off_mode past (off_tail c (Close id) past h))
+-- it is not subscribed
+pub off_mode : (l : Limits) (c : ℕ) (past : List Entry) → KeepsOff c past
+    → (mode l c past).subscribed ≡ false
+off_mode l c past h =
+    by_runs l c past (λ n (m : ModeState). m.subscribed ≡ false) refl
+    (λ id m words up own o off. let by = runner l up id words m in
+    ap (λ (made : OwnEffect). made.mode.subscribed) (made_own by words off)
+    ∙ own_off by (served_reading words) (served_off (reading words) (h id m words up o own)) off)
+    past (older_all past)

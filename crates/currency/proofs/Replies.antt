@@ -1,6 +1,7 @@
--- What is no push of what was sent to a connection is the replies to its commands, in order.
+-- The replies to a connection's commands are, in order, what a test lets through of all that was
+-- sent to it: each of them passes, and no end and no message of another kind that it is sent.
 use Rattle.std.proofs.Common.{◌≡◌, ◌+◌, ℕ, List, [], ◌∷◌, ◌++◌, length, Bool, true, false, cond}
-use Rattle.std.proofs.Common.{refl, ap, ◌∙◌, append-nil, Result, Ok, Err, Option, Some, None}
+use Rattle.std.proofs.Common.{refl, ap, ◌∙◌, append-nil, Option, Some, None}
 use Rattle.std.proofs.Common.{arith, inl, inr, map, sym}
 use Rattle.std.specs.Prelude.{◌==◌}
 use Rattle.std.specs.List.{filter}
@@ -9,109 +10,49 @@ use Rattle.std.proofs.lemmas.List.Elements.{filter-append}
 use Rattle.std.proofs.lemmas.Grind.{common_steps}
 use Rattle.resp_value.specs.declared.value.Value.{Value}
 use Rattle.resp_value.specs.declared.value.Proto.{Proto}
-use Rattle.resp_value.specs.declared.value.Proto.TheVariants.{Two}
-use Rattle.command_words.specs.declared.command.Command.{Command}
-use Rattle.command_words.specs.declared.command.WordFault.{WordFault}
-use Rattle.command_words.specs.Effect.{Effect}
-use Rattle.command_words.specs.Effects.{has_row}
-use Rattle.command_words.specs.Expiry.{without_due}
-use Rattle.command_words.specs.Space.{Space}
-use Rattle.command_words.specs.Words.{reading}
-use Rattle.track_modes.specs.declared.fault.ModeFault.{ModeFault}
+use Rattle.resp_value.specs.declared.value.Proto.TheVariants.{Two, Three}
 use Rattle.track_modes.specs.ModeState.{ModeState, redirect_of}
 use Rattle.redirect.specs.declared.routes.Route.{Route}
 use Rattle.redirect.specs.declared.routes.Route.TheVariants as route
-use Rattle.redirect.specs.Messages.{message_of}
+use Rattle.redirect.specs.Messages.{message_of, notice_of, push_of}
 use Rattle.serial_model.specs.declared.history.Limits.{Limits}
 use Rattle.serial_model.specs.declared.history.Entry.{Entry}
 use Rattle.serial_model.specs.declared.history.Entry.TheVariants.{Admit, Run, Tick, Take, Close}
-use Rattle.serial_model.specs.Modes.{Runner, accepted, hello_reply, pong}
+use Rattle.serial_model.specs.Modes.{is_stopping}
 use Rattle.serial_model.specs.Tracking.{Invalidation}
 use Rattle.serial_model.specs.State.{State, is_live, is_on}
 use Rattle.serial_model.specs.Actions.{Action, End, Message, Sending, ends, expiry_told}
 use Rattle.serial_model.specs.Actions.{carried, later_told, modes_then, replies, routed, to_one}
 use Rattle.serial_model.specs.Actions.{way}
-use Rattle.serial_model.specs.History.{IsLegal, effect_in, effect_of, is_served, keyspace, made}
-use Rattle.serial_model.specs.History.{mode, ran, run_action, runner, runs_on, sends, sent, sent_to}
-use Rattle.serial_model.specs.History.{served, served_reading, state, tick_action}
+use Rattle.serial_model.specs.History.{IsLegal, effect_in, ending_in, made, mode, ran, run_action}
+use Rattle.serial_model.specs.History.{runs_on, sends, sent, sent_to, served_reading, state}
+use Rattle.serial_model.specs.History.{tick_action}
 use Rattle.serial_model.proofs.ActionSends.{run_sends, tick_sends}
 use Rattle.serial_model.proofs.Tables.{sent_to-append}
-use Rattle.serial_model.proofs.ServedRows.{served_cases, data_effect}
-use Rattle.currency.specs.Links.{is_push, is_reply_sent}
-use Rattle.currency.proofs.OffChannel.{KeepsOff, has_no_reply, none_stops, off_mode, off_tail}
-use Rattle.currency.proofs.OffChannel.{ran_own, served_off}
-use Rattle.currency.proofs.PushReplies.{no_push}
+use Rattle.currency.proofs.RunPlaces.{EachRun, each_older}
 use Rattle.currency.proofs.Routes.{route_cases}
-use Rattle.currency.proofs.Runs.{older_all}
+use Rattle.currency.proofs.Runs.{Older, older_all, older_more}
 
--- ---- no reply is a push, but for what SUBSCRIBE and UNSUBSCRIBE are answered
-
-hello_no_push : (id : ℕ) (r : Result Proto (List ℕ)) → is_push (hello_reply id r) ≡ false
-unfolding is_push
-hello_no_push id r = grind arith
-
-accepted_no_push : (fault : Option ModeFault) → is_push (accepted fault) ≡ false
-unfolding is_push
-accepted_no_push fault = grind arith
-
-pong_no_push : (m : ModeState) (text : Option (List ℕ)) → is_push (pong m text) ≡ false
-unfolding is_push
-pong_no_push m text = grind arith
-
-module _ (by : Runner) (words : List (List ℕ)) (space : Space) (m : ℕ) where
-  own_no_push : (c : Command) → is_served c ≡ true → has_row c ≡ false
-      → has_no_reply (Ok c) ≡ false
-      → is_push (effect_of by words (Ok c) space m).reply ≡ false
-  unfolding is_push
-  own_no_push c is none off = grind (arith, hello_no_push, accepted_no_push, pong_no_push)
-
-  fault_no_push : (f : WordFault) → is_push (effect_of by words (Err f) space m).reply ≡ false
-  unfolding is_push
-  fault_no_push f = refl
-
-  effect_no_push : (read : Result Command WordFault) → has_no_reply (served read) ≡ false
-      → is_push (effect_of by words (served read) space m).reply ≡ false
-  effect_no_push =
-      served_cases (λ r. has_no_reply r ≡ false
-      → is_push (effect_of by words r space m).reply ≡ false) own_no_push
-      (λ c row off. ap (λ (e : Effect). is_push e.reply) (data_effect by words c space m row)
-      ∙ (no_push c space m row).is)
-      (λ f off. fault_no_push f)
-
-pub reply_no_push : (l : Limits) (past : List Entry) (id : ℕ) (words : List (List ℕ)) (m : ℕ)
-    → (mode l id past).subscribed ≡ false → has_no_reply (reading words) ≡ false
-    → is_push (ran l past id words m).reply ≡ false
-reply_no_push l past id words m off none =
-    let by = runner l past id words m in
-    let space = without_due m (keyspace l past) in
-    ap (λ (e : Effect). is_push e.reply) (ran_own by words off space m)
-    ∙ effect_no_push by words space m (reading words) (served_off (reading words) none)
-
--- ---- the replies among what was sent
-
-abbrev pub is_reply_at : ℕ × Sending → Bool
-is_reply_at s = is_reply_sent s.1
+-- ---- the reply to a Run
 
 -- what a Run sends its own connection
 abbrev pub reply_to : Limits → List Entry → ℕ → List (List ℕ) → ℕ → Sending
 reply_to l past id words moment =
     Message (made l past id words moment).mode.proto (ran l past id words moment).reply
 
--- it is the one reply of the entry
+-- of a command that stops no server it is the one reply of the entry
 module _ (l : Limits) (past : List Entry) (id : ℕ) (words : List (List ℕ)) (m : ℕ)
-    (off : has_no_reply (reading words) ≡ false) where
+    (goes_on : is_stopping (ending_in (mode l id past) (served_reading words)) ≡ false) where
   pub reply_some : (effect_in (state l past) id words m).reply
       ≡ Some (ran l past id words m).reply
-  reply_some =
-      ap (λ b. cond b None (Some (ran l past id words m).reply))
-      (none_stops (mode l id past) (served_reading words) (served_off (reading words) off))
+  reply_some = ap (λ b. cond b None (Some (ran l past id words m).reply)) goes_on
 
-  pub reply_is : replies (run_action id words m (state l past))
+  reply_is : replies (run_action id words m (state l past))
       ≡ (id, reply_to l past id words m) ∷ []
   reply_is = ap (to_one id (made l past id words m).mode.proto) reply_some
 
 -- a reply is for the connection whose command it answers
-pub other_reply : (n c id : ℕ) (p : Proto) (v : Option Value) → (id == c) ≡ false
+other_reply : (n c id : ℕ) (p : Proto) (v : Option Value) → (id == c) ≡ false
     → sent_to n c (to_one id p v) ≡ []
 other_reply n c id p None other = refl
 other_reply n c id p (Some v) other = ap (λ b. cond b ((n, Message p v) ∷ []) []) other
@@ -127,60 +68,95 @@ replies_of l c (Tick moment ∷ past) = replies_of l c past
 replies_of l c (Take id max ∷ past) = replies_of l c past
 replies_of l c (Close id ∷ past) = replies_of l c past
 
--- no message of an entry's groups is a reply to a connection that is not subscribed
-module _ (n c : ℕ) (modes : ℕ → ModeState) (off : (modes c).subscribed ≡ false)
-    (on : ℕ → Bool) where
-  module _ (target : Option ℕ) (keys : Option (List (List ℕ))) where
-    abbrev NoReply : Route → Type 0
-    NoReply r = filter is_reply_at (sent_to n c (carried r target keys)) ≡ []
+-- ---- what passes a test
 
-    push_no_reply : (r : ℕ) → NoReply (route.Push r)
-    unfolding is_reply_sent is_push
-    push_no_reply r = grind arith
+-- no message of an entry's groups passes that is sent to a connection that is subscribed or not
+pub record NoMessage (p : Sending → Bool) (subscribed : Bool) : Type 0 where
+  pub push : (keys : Option (List (List ℕ))) → p (Message Three (push_of keys)) ≡ false
+  pub notice : (target : ℕ) → p (Message Three (notice_of target)) ≡ false
+  pub message :
+      subscribed ≡ true → (keys : Option (List (List ℕ)))
+      → p (Message Two (message_of keys)) ≡ false
 
-    notice_no_reply : (r : ℕ) → NoReply (route.BrokenNotice r)
-    unfolding is_reply_sent is_push
-    notice_no_reply r = grind arith
+-- a Run is answered by what passes
+pub record Answered (p : Sending → Bool) (l : Limits) (id m : ℕ) (words : List (List ℕ))
+    (past : List Entry) : Type 0 where
+  pub goes_on : is_stopping (ending_in (mode l id past) (served_reading words)) ≡ false
+  pub passes : p (reply_to l past id words m) ≡ true
 
-    message_no_reply : (r : ℕ) → (modes r).subscribed ≡ true → NoReply (route.Message r)
-    message_no_reply r subscribed = elim (cases_Bool (r == c)) [
-      | inl own ↦
-          let is = sym subscribed ∙ ap (λ d. (modes d).subscribed) (eqb-true r c own) ∙ off in
-          absurd (let no : ⊥ = cc in no)
-      | inr other ↦
-          ap (λ b. filter is_reply_at (cond b ((n, Message Two (message_of keys)) ∷ []) [])) other
-    ]
+-- of all that is sent to a connection the replies to its commands pass alone
+pub record RepliesPass (p : Sending → Bool) (l : Limits) (c : ℕ) (past : List Entry)
+    : Type 0 where
+  pub no_end : p End ≡ false
+  pub no_message : (up : List Entry) → Older up past → NoMessage p (mode l c up).subscribed
+  pub own : EachRun (Answered p l) c past
 
-  way_no_reply : (i : Invalidation)
-      → filter is_reply_at (sent_to n c (way modes on i)) ≡ []
-  way_no_reply i =
-      let target = redirect_of (modes i.to).tracking in
-      route_cases modes on (NoReply target i.keys) (push_no_reply target i.keys)
-      (message_no_reply target i.keys) (notice_no_reply target i.keys) refl i.to
+abbrev pub passing : (Sending → Bool) → ℕ × Sending → Bool
+passing p s = p s.1
 
-  pub routed_no_reply : (told : List Invalidation)
-      → filter is_reply_at (sent_to n c (routed modes on told)) ≡ []
-  routed_no_reply [] = refl
-  routed_no_reply (i ∷ told) =
-      grind (arith, sent_to-append, filter-append, way_no_reply, routed_no_reply told)
+-- ---- messages
 
-reply_kept : (b : Bool) (n : ℕ) (p : Proto) (v : Value) (ss : List (ℕ × Sending))
-    → is_push v ≡ false → filter is_reply_at ss ≡ []
-    → filter is_reply_at (cond b ((n, Message p v) ∷ ss) ss) ≡ cond b ((n, Message p v) ∷ []) []
-unfolding is_reply_sent
-reply_kept b n p v ss h none = grind (arith, common_steps)
+module _ (p : Sending → Bool) (n c : ℕ) where
+  one_none : (b : Bool) (x : Sending) → p x ≡ false
+      → filter (passing p) (cond b ((n, x) ∷ []) []) ≡ []
+  one_none true x h = ap (λ b. cond b ((n, x) ∷ []) []) h
+  one_none false x h = refl
 
--- no end is a reply
-end_no_reply : (n c id : ℕ) (b : Bool)
-    → filter is_reply_at (sent_to n c (cond b ((id, End) ∷ []) [])) ≡ []
-unfolding is_reply_sent
-end_no_reply n c id b = grind (arith, common_steps)
+  module _ (modes : ℕ → ModeState) (none : NoMessage p (modes c).subscribed) (on : ℕ → Bool) where
+    module _ (target : Option ℕ) (keys : Option (List (List ℕ))) where
+      abbrev None_passes : Route → Type 0
+      None_passes r = filter (passing p) (sent_to n c (carried r target keys)) ≡ []
 
-ends_no_reply : (n c : ℕ) (ids : List ℕ)
-    → filter is_reply_at (sent_to n c (map (λ id. (id, End)) ids)) ≡ []
-unfolding is_reply_sent
-ends_no_reply n c [] = refl
-ends_no_reply n c (id ∷ ids) = grind (arith, common_steps, ends_no_reply n c ids)
+      no_push : (r : ℕ) → None_passes (route.Push r)
+      no_push r = one_none (r == c) (Message Three (push_of keys)) (none.push keys)
+
+      no_message : (r : ℕ) → (modes r).subscribed ≡ true → None_passes (route.Message r)
+      no_message r subscribed = elim (cases_Bool (r == c)) [
+        | inl own ↦
+            one_none (r == c) (Message Two (message_of keys))
+            (none.message (sym (ap (λ d. (modes d).subscribed) (eqb-true r c own)) ∙ subscribed)
+            keys)
+        | inr other ↦
+            ap (λ b. filter (passing p) (cond b ((n, Message Two (message_of keys)) ∷ []) [])) other
+      ]
+
+    no_notice : (target : Option ℕ) (keys : Option (List (List ℕ))) (r : ℕ)
+        → filter (passing p) (sent_to n c (carried (route.BrokenNotice r) target keys)) ≡ []
+    no_notice None keys r = refl
+    no_notice (Some t) keys r = one_none (r == c) (Message Three (notice_of t)) (none.notice t)
+
+    way_none : (i : Invalidation) → filter (passing p) (sent_to n c (way modes on i)) ≡ []
+    way_none i =
+        let target = redirect_of (modes i.to).tracking in
+        route_cases modes on
+        (λ r. filter (passing p) (sent_to n c (carried r target i.keys)) ≡ [])
+        (no_push target i.keys) (no_message target i.keys) (no_notice target i.keys) refl i.to
+
+    pub routed_none : (told : List Invalidation)
+        → filter (passing p) (sent_to n c (routed modes on told)) ≡ []
+    routed_none [] = refl
+    routed_none (i ∷ told) =
+        grind (arith, sent_to-append, filter-append, way_none, routed_none told)
+
+  ends_none : p End ≡ false → (ids : List ℕ)
+      → filter (passing p) (sent_to n c (map (λ id. (id, End)) ids)) ≡ []
+  ends_none no_end [] = refl
+  ends_none no_end (id ∷ ids) = grind (arith, common_steps, ends_none no_end ids)
+
+  parts : (xs ys zs us : List (ℕ × Sending))
+      → filter (passing p) (sent_to n c (((xs ++ ys) ++ zs) ++ us))
+      ≡ ((filter (passing p) (sent_to n c xs) ++ filter (passing p) (sent_to n c ys))
+      ++ filter (passing p) (sent_to n c zs)) ++ filter (passing p) (sent_to n c us)
+  parts xs ys zs us = grind (arith, sent_to-append, filter-append)
+
+  -- where the first group, the last and the ends have none, those between are all
+  between : (xs ys zs us rs : List (ℕ × Sending)) → filter (passing p) (sent_to n c xs) ≡ []
+      → filter (passing p) (sent_to n c zs) ≡ [] → filter (passing p) (sent_to n c us) ≡ []
+      → filter (passing p) (sent_to n c ys) ≡ rs
+      → filter (passing p) (sent_to n c (((xs ++ ys) ++ zs) ++ us)) ≡ rs
+  between xs ys zs us rs first last end is = grind (arith, parts xs ys zs us, append-nil)
+
+-- ---- entries
 
 -- what a Run of a connection that has not ended sends, in order
 module _ (l : Limits) (past : List Entry) (id : ℕ) (words : List (List ℕ)) (m : ℕ) where
@@ -205,123 +181,122 @@ module _ (l : Limits) (past : List Entry) (id : ℕ) (words : List (List ℕ)) (
       ≡ ((early ++ replies t) ++ late) ++ ending
   run_sends_are legal on = run_sends l past id words m legal on
 
-filter_parts : (n c : ℕ) (xs ys zs us : List (ℕ × Sending))
-    → filter is_reply_at (sent_to n c (((xs ++ ys) ++ zs) ++ us))
-    ≡ ((filter is_reply_at (sent_to n c xs) ++ filter is_reply_at (sent_to n c ys))
-    ++ filter is_reply_at (sent_to n c zs)) ++ filter is_reply_at (sent_to n c us)
-filter_parts n c xs ys zs us = grind (arith, sent_to-append, filter-append)
+-- what passes up to an entry passes up to an older one
+pass_tail : (p : Sending → Bool) (l : Limits) (c : ℕ) (e : Entry) (past : List Entry)
+    → RepliesPass p l c (e ∷ past) → RepliesPass p l c past
+pass_tail p l c e past h =
+    let older : Older past (e ∷ past) = record { newer = e ∷ []; is = refl } in record {
+      no_end = h.no_end;
+      no_message = λ up o. h.no_message up (older_more up past (e ∷ past) o older);
+      own = each_older (Answered p l) c past (e ∷ past) older h.own;
+    }
 
--- a connection that keeps off the channel is sent no reply but those to its own commands
-module _ (l : Limits) (c : ℕ) where
-  then_off : (id m : ℕ) (words : List (List ℕ)) (past : List Entry)
-      → KeepsOff c (Run id words m ∷ past)
-      → (modes_then (run_action id words m (state l past)) (state l past) c).subscribed ≡ false
+module _ (p : Sending → Bool) (l : Limits) (c : ℕ) where
+  abbrev Passes : List Entry → Type 0
+  Passes past = RepliesPass p l c past
+
+  -- the modes behind an entry's command are those that it leaves
+  then_none : (id m : ℕ) (words : List (List ℕ)) (past : List Entry)
+      → Passes (Run id words m ∷ past)
+      → NoMessage p (modes_then (run_action id words m (state l past)) (state l past) c).subscribed
   unfolding state
-  then_off id m words past keeps = off_mode l c (Run id words m ∷ past) keeps
+  then_none id m words past h = h.no_message (Run id words m ∷ past) (older_all _)
 
-  tick_off : (m : ℕ) (past : List Entry) → KeepsOff c (Tick m ∷ past)
-      → (modes_then (tick_action m (state l past)) (state l past) c).subscribed ≡ false
+  tick_then : (m : ℕ) (past : List Entry) → Passes (Tick m ∷ past)
+      → NoMessage p (modes_then (tick_action m (state l past)) (state l past) c).subscribed
   unfolding state
-  tick_off m past keeps = off_mode l c (Tick m ∷ past) keeps
+  tick_then m past h = h.no_message (Tick m ∷ past) (older_all _)
 
-  -- that of an entry
+  before_none : (e : Entry) (past : List Entry) → Passes (e ∷ past)
+      → NoMessage p (mode l c past).subscribed
+  before_none e past h = h.no_message past (record { newer = e ∷ []; is = refl })
+
+  own_one : (b : Bool) (n : ℕ) (x : Sending) → p x ≡ true
+      → filter (passing p) (cond b ((n, x) ∷ []) []) ≡ cond b ((n, x) ∷ []) []
+  own_one true n x h = ap (λ b. cond b ((n, x) ∷ []) []) h
+  own_one false n x h = refl
+
+  -- the reply of an entry
   own_kept : (n id m : ℕ) (words : List (List ℕ)) (past : List Entry)
-      → KeepsOff c (Run id words m ∷ past)
-      → filter is_reply_at (sent_to n c (replies (run_action id words m (state l past))))
+      → Passes (Run id words m ∷ past)
+      → filter (passing p) (sent_to n c (replies (run_action id words m (state l past))))
       ≡ cond (id == c) ((n, reply_to l past id words m) ∷ []) []
-  own_kept n id m words past keeps = elim (cases_Bool (id == c)) [
+  own_kept n id m words past h = elim (cases_Bool (id == c)) [
     | inl own ↦
-        let before : (mode l id past).subscribed ≡ false =
-        ap (λ d. (mode l d past).subscribed) (eqb-true id c own)
-        ∙ off_mode l c past (off_tail c (Run id words m) past keeps) in
-        let none = keeps id m words past (older_all (Run id words m ∷ past)) own in
-        ap (λ ss. filter is_reply_at (sent_to n c ss)) (reply_is l past id words m none)
-        ∙ reply_kept (id == c) n (made l past id words m).mode.proto
-        (ran l past id words m).reply [] (reply_no_push l past id words m before none) refl
+        let a = h.own id m words past (older_all (Run id words m ∷ past)) own in
+        ap (λ ss. filter (passing p) (sent_to n c ss)) (reply_is l past id words m a.goes_on)
+        ∙ own_one (id == c) n (reply_to l past id words m) a.passes
     | inr other ↦
         let e = effect_in (state l past) id words m in
-        ap (filter is_reply_at) (other_reply n c id e.mode.proto e.reply other)
+        ap (filter (passing p)) (other_reply n c id e.mode.proto e.reply other)
         ∙ ap (λ b. cond b ((n, reply_to l past id words m) ∷ []) []) (sym other)
   ]
 
   run_reply : (n id m : ℕ) (words : List (List ℕ)) (past : List Entry) → IsLegal l past
-      → KeepsOff c (Run id words m ∷ past) → runs_on l past id ≡ true
-      → filter is_reply_at (sent_to n c (sends l (Run id words m) (state l past)))
+      → runs_on l past id ≡ true → Passes (Run id words m ∷ past)
+      → filter (passing p) (sent_to n c (sends l (Run id words m) (state l past)))
       ≡ cond (id == c) ((n, reply_to l past id words m) ∷ []) []
-  run_reply n id m words past legal keeps on =
+  run_reply n id m words past legal on h =
       let s = state l past in
       let t = run_action id words m s in
-      let before = off_mode l c past (off_tail c (Run id words m) past keeps) in
-      let after = then_off id m words past keeps in
-      ap (λ ss. filter is_reply_at (sent_to n c ss)) (run_sends_are l past id words m legal on)
-      ∙ filter_parts n c (early l past id words m) (replies t) (late l past id words m)
-      (ending l past id words m)
-      ∙ ap (λ x. ((x ++ filter is_reply_at (sent_to n c (replies t)))
-      ++ filter is_reply_at (sent_to n c (late l past id words m)))
-      ++ filter is_reply_at (sent_to n c (ending l past id words m)))
-      (routed_no_reply n c s.modes before (is_on s) (expiry_told t s))
-      ∙ ap (λ x. (filter is_reply_at (sent_to n c (replies t)) ++ x)
-      ++ filter is_reply_at (sent_to n c (ending l past id words m)))
-      (routed_no_reply n c (modes_then t s) after (is_on s) (later_told l t s))
-      ∙ ap (λ x. (filter is_reply_at (sent_to n c (replies t)) ++ []) ++ x)
-      (ends_no_reply n c (ends l t s))
-      ∙ none_behind (filter is_reply_at (sent_to n c (replies t)))
-      ∙ own_kept n id m words past keeps
-    where
-      none_behind : (xs : List (ℕ × Sending)) → (xs ++ []) ++ [] ≡ xs
-      none_behind xs = append-nil (xs ++ []) ∙ append-nil xs
+      ap (λ ss. filter (passing p) (sent_to n c ss)) (run_sends_are l past id words m legal on)
+      ∙ between p n c (early l past id words m) (replies t) (late l past id words m)
+      (ending l past id words m) (cond (id == c) ((n, reply_to l past id words m) ∷ []) [])
+      (routed_none p n c s.modes (before_none (Run id words m) past h) (is_on s)
+      (expiry_told t s))
+      (routed_none p n c (modes_then t s) (then_none id m words past h) (is_on s)
+      (later_told l t s))
+      (ends_none p n c h.no_end (ends l t s)) (own_kept n id m words past h)
 
-  tick_reply : (n m : ℕ) (past : List Entry) → IsLegal l past → KeepsOff c (Tick m ∷ past)
-      → filter is_reply_at (sent_to n c (sends l (Tick m) (state l past))) ≡ []
-  tick_reply n m past legal keeps =
+  tick_reply : (n m : ℕ) (past : List Entry) → IsLegal l past → Passes (Tick m ∷ past)
+      → filter (passing p) (sent_to n c (sends l (Tick m) (state l past))) ≡ []
+  tick_reply n m past legal h =
       let s = state l past in
       let t = tick_action m s in
-      let before = off_mode l c past (off_tail c (Tick m) past keeps) in
-      let after = tick_off m past keeps in
-      let ending = map (λ c. (c, End)) (ends l t s) in
-      ap (λ ss. filter is_reply_at (sent_to n c ss)) (tick_sends l past m legal)
-      ∙ filter_parts n c (routed s.modes (is_on s) (expiry_told t s)) []
-      (routed (modes_then t s) (is_on s) (later_told l t s)) ending
-      ∙ ap (λ x. ((x ++ [])
-      ++ filter is_reply_at (sent_to n c (routed (modes_then t s) (is_on s) (later_told l t s))))
-      ++ filter is_reply_at (sent_to n c ending))
-      (routed_no_reply n c s.modes before (is_on s) (expiry_told t s))
-      ∙ ap (λ x. x ++ filter is_reply_at (sent_to n c ending))
-      (routed_no_reply n c (modes_then t s) after (is_on s) (later_told l t s))
-      ∙ ends_no_reply n c (ends l t s)
+      ap (λ ss. filter (passing p) (sent_to n c ss)) (tick_sends l past m legal)
+      ∙ between p n c (routed s.modes (is_on s) (expiry_told t s)) []
+      (routed (modes_then t s) (is_on s) (later_told l t s)) (map (λ c. (c, End)) (ends l t s)) []
+      (routed_none p n c s.modes (before_none (Tick m) past h) (is_on s) (expiry_told t s))
+      (routed_none p n c (modes_then t s) (tick_then m past h) (is_on s) (later_told l t s))
+      (ends_none p n c h.no_end (ends l t s)) refl
+
+  close_none : (n id : ℕ) (b : Bool) → p End ≡ false
+      → filter (passing p) (sent_to n c (cond b ((id, End) ∷ []) [])) ≡ []
+  close_none n id true none = one_none p n c (id == c) End none
+  close_none n id false none = refl
 
   add_none : (e : Entry) (past : List Entry)
-      → filter is_reply_at (sent_to (length past + 1) c (sends l e (state l past))) ≡ []
-      → filter is_reply_at (sent l c past) ≡ replies_of l c past
-      → filter is_reply_at (sent l c (e ∷ past)) ≡ replies_of l c past
+      → filter (passing p) (sent_to (length past + 1) c (sends l e (state l past))) ≡ []
+      → filter (passing p) (sent l c past) ≡ replies_of l c past
+      → filter (passing p) (sent l c (e ∷ past)) ≡ replies_of l c past
   add_none e past none before = grind (arith, filter-append, append-nil)
 
   out_of : (b : Bool) (xs ys : List (ℕ × Sending)) → xs ++ cond b ys [] ≡ cond b (xs ++ ys) xs
   out_of b xs ys = grind (arith, common_steps)
 
-  pub replies_are_of_runs : (past : List Entry) → IsLegal l past → KeepsOff c past
-      → filter is_reply_at (sent l c past) ≡ replies_of l c past
+  pub replies_are_of_runs : (past : List Entry) → IsLegal l past → Passes past
+      → filter (passing p) (sent l c past) ≡ replies_of l c past
   unfolding replies_of
-  replies_are_of_runs [] h keeps = refl
-  replies_are_of_runs (Tick m ∷ past) h keeps =
-      add_none (Tick m) past (tick_reply (length past + 1) m past h.3 keeps)
-      (replies_are_of_runs past h.3 (off_tail c (Tick m) past keeps))
-  replies_are_of_runs (Close id ∷ past) h keeps =
+  replies_are_of_runs [] legal h = refl
+  replies_are_of_runs (Tick m ∷ past) legal h =
+      add_none (Tick m) past (tick_reply (length past + 1) m past legal.3 h)
+      (replies_are_of_runs past legal.3 (pass_tail p l c (Tick m) past h))
+  replies_are_of_runs (Close id ∷ past) legal h =
       add_none (Close id) past
-      (end_no_reply (length past + 1) c id (is_live ((state l past).standing id)))
-      (replies_are_of_runs past h.1 (off_tail c (Close id) past keeps))
-  replies_are_of_runs (Run id words m ∷ past) h keeps =
-      filter-append is_reply_at (sent l c past)
+      (close_none (length past + 1) id (is_live ((state l past).standing id)) h.no_end)
+      (replies_are_of_runs past legal.1 (pass_tail p l c (Close id) past h))
+  replies_are_of_runs (Run id words m ∷ past) legal h =
+      filter-append (passing p) (sent l c past)
       (sent_to (length past + 1) c (sends l (Run id words m) (state l past)))
-      ∙ ap (λ xs. filter is_reply_at (sent l c past) ++ xs)
-      (run_reply (length past + 1) id m words past h.2 keeps h.0)
+      ∙ ap (λ xs. filter (passing p) (sent l c past) ++ xs)
+      (run_reply (length past + 1) id m words past legal.2 legal.0 h)
       ∙ ap (λ xs. xs ++ cond (id == c) ((length past + 1, reply_to l past id words m) ∷ []) [])
-      (replies_are_of_runs past h.2 (off_tail c (Run id words m) past keeps))
+      (replies_are_of_runs past legal.2 (pass_tail p l c (Run id words m) past h))
       ∙ out_of (id == c) (replies_of l c past)
       ((length past + 1, reply_to l past id words m) ∷ [])
-  replies_are_of_runs (Admit id ∷ past) h keeps =
+  replies_are_of_runs (Admit id ∷ past) legal h =
       add_none (Admit id) past refl
-      (replies_are_of_runs past h.2 (off_tail c (Admit id) past keeps))
-  replies_are_of_runs (Take id max ∷ past) h keeps =
+      (replies_are_of_runs past legal.2 (pass_tail p l c (Admit id) past h))
+  replies_are_of_runs (Take id max ∷ past) legal h =
       add_none (Take id max) past refl
-      (replies_are_of_runs past h.2 (off_tail c (Take id max) past keeps))
+      (replies_are_of_runs past legal.2 (pass_tail p l c (Take id max) past h))

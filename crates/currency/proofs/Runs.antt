@@ -178,7 +178,7 @@ module _ (c : ℕ) where
       ]
   entries_more (e ∷ newer) up = entries_more newer up
 
-  entries_older : (up past : List Entry) → Older up past
+  pub entries_older : (up past : List Entry) → Older up past
       → IsPrefix (run_entries c up) (run_entries c past)
   entries_older up past o =
       subst (λ p. IsPrefix (run_entries c up) (run_entries c p)) o.is (entries_more o.newer up)

@@ -5,15 +5,15 @@ use Rattle.std.proofs.Common.{append_assoc, append-nil, Bool}
 use Rattle.std.specs.Prelude.{slice_get, ◌==◌, Option}
 use Rattle.std.proofs.lemmas.Option.{slice_get_within}
 use Rattle.resp_value.specs.Lists.{IsPrefix}
+use Rattle.resp_value.specs.declared.value.Proto.{Proto}
 use Rattle.resp_value.specs.declared.value.Proto.TheVariants.{Three}
 use Rattle.track_modes.specs.ModeState.{ModeState}
 use Rattle.serial_model.specs.declared.history.Limits.{Limits}
 use Rattle.serial_model.specs.declared.history.Entry.{Entry}
 use Rattle.serial_model.specs.Tracking.{Invalidation, push_of, names_key}
 use Rattle.serial_model.specs.Actions.{Sending, Message, End, routed, way}
-use Rattle.serial_model.specs.History.{sends, sent_to, sent, mode, runs_on, state}
-use Rattle.serial_model.specs.Laws.{IsDirect, is_due, has_end}
-use Rattle.serial_model.proofs.DueLaws.{due_is_pushed}
+use Rattle.serial_model.specs.History.{sends, sent_to, sent, state}
+use Rattle.serial_model.specs.Laws.{IsToldAmong, has_end, telling}
 use Rattle.currency.proofs.Lists.{get_front, get_behind, get_middle, get_parts, Behind}
 use Rattle.currency.proofs.Lists.{get_given}
 use Rattle.currency.proofs.Runs.{Older}
@@ -105,23 +105,13 @@ module _ (c : ℕ) where
         let m = sent_more o.newer up in
         grind (arith, get_front)
 
-    -- what an entry sends to the connection has a place behind all that was sent before
-    pub sent_at : (x : Entry) (up : List Entry) (k : ℕ) (y : ℕ × Sending)
-        → slice_get (sends l x (state l up)) k ≡ Some y → (y.0 == c) ≡ true
-        → (j : ℕ) × (slice_get (sent l c (x ∷ up)) j ≡ Some (length up + 1, y.1))
-    sent_at x up k y e own =
-        let r = is_sent_to (length up + 1) (sends l x (state l up)) k y e own in (
-          length (sent l c up) + r.0,
-          grind (arith, get_behind),
-        )
-
     -- ---- invalidations
 
-    -- an invalidation of the key that was sent
-    pub record Told (past : List Entry) (n : ℕ) (key : List ℕ) : Type 0 where
+    -- an invalidation of the key that was sent, in the form of this protocol
+    pub record Told (proto : Proto) (past : List Entry) (n : ℕ) (key : List ℕ) : Type 0 where
       pub place : ℕ
       pub keys : Option (List (List ℕ))
-      pub there : slice_get (sent l c past) place ≡ Some (n, Message Three (push_of keys))
+      pub there : slice_get (sent l c past) place ≡ Some (n, telling proto keys)
       pub names : names_key keys key ≡ true
 
     -- whom a group tells directly is sent a push
@@ -134,31 +124,25 @@ module _ (c : ℕ) where
         get_given (way modes on) told k i (i.to, Message Three (push_of i.keys)) 0 e
         (ap (λ ss. slice_get ss 0) direct)
 
-    -- a connection that is sent its messages itself is sent a push of what an entry tells it of
-    pub lands : (x : Entry) (up : List Entry) (key : List ℕ) → runs_on l up c ≡ true
-        → is_due l x up c key ≡ true → IsDirect (mode l c up) → IsDirect (mode l c (x ∷ up))
-        → Told (x ∷ up) (length up + 1) key
-    lands x up key on due before after =
+    -- what an entry sends it of a key has a place among all that was sent
+    pub lands : (proto : Proto) (x : Entry) (up : List Entry) (key : List ℕ)
+        → IsToldAmong proto key (length up + 1) (sent_to (length up + 1) c (sends l x (state l up)))
+        → Told proto (x ∷ up) (length up + 1) key
+    lands proto x up key h =
         let n = length up + 1 in
-        let h = due_is_pushed l x up c key on before after due in
-        let push : ℕ × Sending = (n, Message Three (push_of h.keys)) in
+        let message : ℕ × Sending = (n, telling proto h.keys) in
         record {
           place = length (sent l c up) + length h.before;
           keys = h.keys;
           there =
-              get_behind (sent l c up) (sent_to n c (sends l x (state l up))) (length h.before) push
+              get_behind (sent l c up) (sent_to n c (sends l x (state l up))) (length h.before)
+              message
               (ap (λ ss. slice_get ss (length h.before)) h.is
-              ∙ get_middle h.before push h.behind);
+              ∙ get_middle h.before message h.behind);
           names = h.named;
         }
 
-    -- where a connection has ended its end was sent
-    pub record Ended (past : List Entry) (n : ℕ) : Type 0 where
-      pub place : ℕ
-      pub entry : ℕ
-      pub there : slice_get (sent l c past) place ≡ Some (entry, End)
-      pub before : entry ≤ n
-
+    -- an end that was sent has a place
     pub end_place : (ss : List (ℕ × Sending)) → has_end ss ≡ true
         → (i n : ℕ) × (slice_get ss i ≡ Some (n, End))
     end_place [] h = absurd (let no : ⊥ = cc in no)

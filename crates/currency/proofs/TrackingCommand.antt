@@ -1,35 +1,33 @@
--- What a client's tracking command is read as, and what it makes of a connection that does not
--- track yet.
-use Rattle.std.proofs.Common.{◌≡◌, ℕ, List, [], ◌∷◌, ◌++◌, Bool, true, false, cond, refl, ap, sym}
-use Rattle.std.proofs.Common.{◌∙◌, Ok, Option, Some, None, codes, append-nil, append_assoc}
-use Rattle.std.specs.Prelude.{◌&&◌, option_map}
+-- What a client's tracking command is read as: the client's options, and where invalidations are to
+-- go.
+use Rattle.std.proofs.Common.{◌≡◌, ◌⊎◌, inl, inr, ℕ, ℤ, List, [], ◌∷◌, ◌++◌, Bool, true, false}
+use Rattle.std.proofs.Common.{refl, ap, sym, ◌∙◌, Ok, Err, Option, Some, None, codes}
+use Rattle.std.proofs.Common.{append-nil, append_assoc}
+use Rattle.std.specs.Fmt.{decimal}
+use Rattle.std.specs.Prelude.{pos}
 use Rattle.std.specs.List.{flat_map}
+use Rattle.command_words.specs.declared.command.Command.{Command}
 use Rattle.command_words.specs.declared.command.Command.TheVariants.{ClientTracking}
 use Rattle.command_words.specs.declared.command.TrackOptions.{TrackOptions}
-use Rattle.command_words.specs.Reading.{read_as}
+use Rattle.command_words.specs.declared.command.WordFault.{WordFault}
+use Rattle.command_words.specs.Reading.{Read, read_as, read_then}
+use Rattle.command_words.specs.WordCounts.{number}
 use Rattle.command_words.specs.Words.{reading}
 use Rattle.command_words.specs.StringWords.{string_reading}
 use Rattle.command_words.specs.HashWords.{hash_reading}
 use Rattle.command_words.specs.KeyWords.{key_reading}
 use Rattle.command_words.specs.ConnectionWords.{connection_reading}
 use Rattle.command_words.specs.ClientWords.{client_reading}
-use Rattle.command_words.specs.TrackingWords.{no_options, track_options, tracking}
-use Rattle.track_modes.specs.declared.fault.ModeFault.{ModeFault}
-use Rattle.track_modes.specs.declared.fault.ModeFault.TheVariants.{Overlap}
+use Rattle.command_words.specs.TrackingWords.{connection_of, no_options, track_options, tracking}
 use Rattle.track_modes.specs.declared.tracking.TrackMode.{TrackMode}
 use Rattle.track_modes.specs.declared.tracking.TrackMode.TheVariants as track
-use Rattle.track_modes.specs.declared.tracking.Tracking.{Tracking}
-use Rattle.track_modes.specs.declared.tracking.Tracking.TheVariants.{Off, On}
-use Rattle.track_modes.specs.Commands.{fault_at}
-use Rattle.track_modes.specs.ModeState.{ModeState, redirect_of}
-use Rattle.track_modes.specs.PrefixLists.{overlapped, registered}
-use Rattle.track_modes.specs.Tracked.{has_prefix, on_fault}
-use Rattle.serial_model.specs.Modes.{Runner, own_effect, unless_refused}
-use Rattle.serial_model.specs.History.{served, served_reading}
+use Rattle.track_modes.specs.PrefixLists.{registered}
 use Rattle.shared_cache.specs.declared.log.Caching.{Caching}
 use Rattle.shared_cache.specs.declared.log.Caching.TheVariants.{Default, OptIn, OptOut, Bcast}
 use Rattle.shared_cache.specs.declared.log.ClientMode.{ClientMode}
-use Rattle.shared_cache.specs.Log.{caching_words, noloop_words}
+use Rattle.shared_cache.specs.Log.{caching_words, noloop_words, redirect_words}
+use Rattle.shared_cache.specs.Log.{tracking as asks_tracking}
+use Rattle.currency.proofs.DecimalWords.{number_back}
 
 -- ---- how a client asks to be tracked
 
@@ -39,34 +37,20 @@ asked_mode OptIn = track.OptIn
 asked_mode OptOut = track.OptOut
 asked_mode (Bcast prefixes) = track.Bcast (registered prefixes [])
 
--- the prefix for which the command is refused: another of the command overlaps it
-abbrev pub refusal : Caching → Option (List ℕ)
-refusal Default = None
-refusal OptIn = None
-refusal OptOut = None
-refusal (Bcast prefixes) = overlapped [] prefixes
+abbrev pub directed : Option ℕ → TrackOptions
+directed target = record (no_options true) { redirect = target }
 
--- a refused command leaves its connection untracked
-abbrev pub tracked_by : Option (List ℕ) → Caching → Bool → Tracking
-tracked_by None c noloop =
-    On (record { mode = asked_mode c; redirect = None; noloop = noloop })
-tracked_by (Some prefix) c noloop = Off
+abbrev pub asked_options : Caching → Bool → Option ℕ → TrackOptions
+asked_options Default noloop target = record (directed target) { noloop = noloop }
+asked_options OptIn noloop target = record (directed target) { optin = true; noloop = noloop }
+asked_options OptOut noloop target = record (directed target) { optout = true; noloop = noloop }
+asked_options (Bcast prefixes) noloop target =
+    record (directed target) { prefixes = prefixes; bcast = true; noloop = noloop }
 
-abbrev pub asked_tracking : ClientMode → Tracking
-asked_tracking m = tracked_by (refusal m.caching) m.caching m.noloop
+-- ---- its options are read
 
-abbrev pub track_words : Caching → Bool → List (List ℕ)
-track_words c noloop =
-    codes "CLIENT" ∷ codes "TRACKING" ∷ codes "ON" ∷ (caching_words c ++ noloop_words noloop)
-
--- ---- the words of a BCAST client
-
-abbrev pub prefix_words : List (List ℕ) → List (List ℕ)
+abbrev prefix_words : List (List ℕ) → List (List ℕ)
 prefix_words prefixes = flat_map (λ p. codes "PREFIX" ∷ p ∷ []) prefixes
-
-abbrev pub bcast_options : List (List ℕ) → Bool → TrackOptions
-bcast_options prefixes noloop =
-    record (no_options true) { prefixes = prefixes; bcast = true; noloop = noloop }
 
 prefixes_read : (o : TrackOptions) (ps rest : List (List ℕ))
     → track_options o (prefix_words ps ++ rest)
@@ -78,60 +62,68 @@ prefixes_read o (p ∷ ps) rest =
     ∙ ap (λ xs. track_options (record o { prefixes = xs }) rest)
     (append_assoc o.prefixes (p ∷ []) ps)
 
-noloop_read : (ps : List (List ℕ)) (noloop : Bool)
-    → track_options (bcast_options ps false) (noloop_words noloop) ≡ Ok (bcast_options ps noloop)
-noloop_read ps true = refl
-noloop_read ps false = refl
+noloop_read : (ps : List (List ℕ)) (noloop : Bool) (target : Option ℕ)
+    → track_options (asked_options (Bcast ps) false target) (noloop_words noloop)
+    ≡ Ok (asked_options (Bcast ps) noloop target)
+noloop_read ps true target = refl
+noloop_read ps false target = refl
 
-pub bcast_reads : (ps : List (List ℕ)) (noloop : Bool)
-    → reading (track_words (Bcast ps) noloop) ≡ Ok (ClientTracking (bcast_options ps noloop))
+options_read : (c : Caching) (noloop : Bool) (target : Option ℕ)
+    → track_options (directed target) (caching_words c ++ noloop_words noloop)
+    ≡ Ok (asked_options c noloop target)
+options_read Default true target = refl
+options_read Default false target = refl
+options_read OptIn true target = refl
+options_read OptIn false target = refl
+options_read OptOut true target = refl
+options_read OptOut false target = refl
+options_read (Bcast ps) noloop target =
+    prefixes_read (asked_options (Bcast []) false target) ps (noloop_words noloop)
+    ∙ noloop_read ps noloop target
+
+tracking_reads : (words : List (List ℕ))
+    → reading (codes "CLIENT" ∷ codes "TRACKING" ∷ codes "ON" ∷ words)
+    ≡ read_as ClientTracking (track_options (no_options true) words)
 unfolding reading string_reading hash_reading key_reading connection_reading client_reading tracking
-bcast_reads ps noloop =
-    ap (read_as ClientTracking)
-    (prefixes_read (bcast_options [] false) ps (noloop_words noloop) ∙ noloop_read ps noloop)
+tracking_reads words = refl
 
--- ---- what the command makes of the connection
+-- ---- the command
 
-abbrev pub with_tracking : Runner → Tracking → Runner
-with_tracking by t = record by { mode = record by.mode { tracking = t } }
+-- words that ask for what a client asks for, or that read as no command
+abbrev pub ReadsAsked : ClientMode → Option ℕ → List (List ℕ) → Type 0
+ReadsAsked m target words =
+    (reading words ≡ Ok (ClientTracking (asked_options m.caching m.noloop target)))
+    ⊎ ((fault : WordFault) × (reading words ≡ Err fault))
 
-unneeded : (b : Bool) (fault : ModeFault) (o : Option ModeFault)
-    → cond (b && false) (Some fault) o ≡ o
-unneeded true fault o = refl
-unneeded false fault o = refl
+-- without a target
+pub direct_reads : (m : ClientMode) → ReadsAsked m None (asks_tracking m [])
+direct_reads m =
+    inl (tracking_reads (caching_words m.caching ++ noloop_words m.noloop)
+    ∙ ap (read_as ClientTracking) (options_read m.caching m.noloop None))
 
-pub bcast_fault : (ps : List (List ℕ)) (noloop there : Bool)
-    → on_fault (bcast_options ps noloop) there Off ≡ option_map Overlap (overlapped [] ps)
-bcast_fault ps noloop there = unneeded (has_prefix (bcast_options ps noloop)) _ _
+-- a number past 64 bits reads as no command
+module _ (m : ClientMode) where
+  abbrev with_target : Read ℤ → Read Command
+  with_target r =
+      read_as ClientTracking
+      (read_then r (λ n. Ok (asked_options m.caching m.noloop (Some (connection_of n)))))
 
-bcast_leaves : (by : ModeState) (ps : List (List ℕ)) (noloop : Bool) (r : Option (List ℕ))
-    → (unless_refused (option_map Overlap r) (ClientTracking (bcast_options ps noloop))
-    (record by { tracking = Off })).mode
-    ≡ record by { tracking = tracked_by r (Bcast ps) noloop; caching = false }
-bcast_leaves by ps noloop None = refl
-bcast_leaves by ps noloop (Some prefix) = refl
+  redirect_reads : (id : List ℕ)
+      → reading (asks_tracking m (redirect_words id)) ≡ with_target (number id)
+  redirect_reads id =
+      tracking_reads (redirect_words id ++ (caching_words m.caching ++ noloop_words m.noloop))
+      ∙ (λ i. read_as ClientTracking (read_then (number id)
+      (λ n. options_read m.caching m.noloop (Some (connection_of n)) i)))
 
-pub track_made : (by : Runner) (c : Caching) (noloop : Bool)
-    → (own_effect (served_reading (track_words c noloop)) (with_tracking by Off)).mode
-    ≡ record by.mode { tracking = tracked_by (refusal c) c noloop; caching = false }
-unfolding reading string_reading hash_reading key_reading connection_reading client_reading
-    tracking fault_at
-track_made by Default true = refl
-track_made by Default false = refl
-track_made by OptIn true = refl
-track_made by OptIn false = refl
-track_made by OptOut true = refl
-track_made by OptOut false = refl
-track_made by (Bcast ps) noloop =
-    ap (λ r. (own_effect (served r) (with_tracking by Off)).mode) (bcast_reads ps noloop)
-    ∙ ap (λ f. (unless_refused f (ClientTracking (bcast_options ps noloop))
-    (record by.mode { tracking = Off })).mode) (bcast_fault ps noloop by.target_exists)
-    ∙ bcast_leaves by.mode ps noloop (overlapped [] ps)
+  by_number : (id : ℕ) (words : List (List ℕ)) (r : Read ℤ) → ((n : ℤ) → r ≡ Ok n → n ≡ pos id)
+      → reading words ≡ with_target r → ReadsAsked m (Some id) words
+  by_number id words (Ok n) back e =
+      inl (e ∙ ap (λ k. with_target (Ok k)) (back n refl))
+  by_number id words (Err fault) back e = inr (fault, e)
 
--- it redirects messages to no other connection
-pub asked_direct : (m : ClientMode) → redirect_of (asked_tracking m) ≡ None
-asked_direct m = by (refusal m.caching)
-  where
-    by : (r : Option (List ℕ)) → redirect_of (tracked_by r m.caching m.noloop) ≡ None
-    by None = refl
-    by (Some prefix) = refl
+  -- to the connection of that number
+  pub target_reads : (id : ℕ)
+      → ReadsAsked m (Some id) (asks_tracking m (redirect_words (decimal id)))
+  target_reads id =
+      by_number id (asks_tracking m (redirect_words (decimal id))) (number (decimal id))
+      (number_back id) (redirect_reads (decimal id))

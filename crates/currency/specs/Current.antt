@@ -16,7 +16,7 @@ use Rattle.shared_cache.specs.declared.log.Wire.{Wire}
 use Rattle.shared_cache.specs.declared.log.Wire.TheVariants.{Main}
 use Rattle.shared_cache.specs.declared.log.LogEntry.{LogEntry}
 use Rattle.shared_cache.specs.declared.entry.CacheEntry.{CacheEntry}
-use Rattle.shared_cache.specs.ClientFields.{IsOneLink}
+use Rattle.shared_cache.specs.ClientFields.{IsClientMode}
 use Rattle.shared_cache.specs.Notices.{invalidates}
 use Rattle.shared_cache.specs.Held.{held}
 use Rattle.shared_cache.specs.Laws.{Every, LegalLog, gots}
@@ -82,11 +82,11 @@ pub record HasPoint (l : Limits) (x : Client) (past : List Entry) (log : List Lo
       → slice_get (sent l (x.id w) past) i ≡ Some s
       → s.0 < point l x past log h fetched
 
--- For every legal history and every legal log that meet, of a client of one link in any mode: each
--- held entry is current, and a hit on it has its point. The words of what is held are a query, and
--- each query is served.
+-- For every legal history and every legal log that meet, of a client of one link or of two in any
+-- mode: each held entry is current, and a hit on it has its point. The words of what is held are a
+-- query, and each query is served.
 abbrev pub Currency : Type 0
 Currency =
     (l : Limits) (x : Client) (past : List Entry) (log : List LogEntry)
-    → IsOneLink x.setup.mode → IsLegal l past → LegalLog x.setup log → Meet l x past log
+    → IsClientMode x.setup.mode → IsLegal l past → LegalLog x.setup log → Meet l x past log
     → Every (λ h. IsCurrent l x past log h × HasPoint l x past log h) (held x.setup log)

@@ -172,7 +172,8 @@ impl ClientState {
         self.ended
     }
 
-    fn has_ended_on(&self, wire: Wire) -> bool
+    /// Whether this link has ended.
+    pub fn has_ended_on(&self, wire: Wire) -> bool
         ensures { result ≡ is_ended self.now.setup.mode wire self.now.past }
     {
         match wire {
@@ -185,7 +186,17 @@ impl ClientState {
     pub fn waiting(&self) -> usize
         ensures { result ≡ length (untaken self.now.setup Main self.now.past) }
     {
-        self.queued.len()
+        self.waiting_on(Wire::Main)
+    }
+
+    /// How many bytes are to be taken out for this link.
+    pub fn waiting_on(&self, wire: Wire) -> usize
+        ensures { result ≡ length (untaken self.now.setup wire self.now.past) }
+    {
+        match wire {
+            Wire::Main => self.queued.len(),
+            Wire::Side => self.side.queued.len(),
+        }
     }
 
     /// How many of its commands have been answered, those of the handshake among them.
