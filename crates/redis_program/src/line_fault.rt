@@ -32,8 +32,6 @@ pub enum Refusal<'a> {
     NoClient(&'a [u8]),
     NameTaken(&'a [u8]),
     NothingThere,
-    /// The client's mode is not served yet.
-    Mode,
     /// The command is for a client's handshake alone.
     Control,
     /// The client owes nobody a reply of this number.
@@ -121,7 +119,6 @@ impl fmt::Display for Refusal<'_> {
                 write!(f, "a link or a client is named {name} already")
             }
             Refusal::NothingThere => f.write_str("fewer bytes are there than it moves"),
-            Refusal::Mode => f.write_str("no such client is served yet: it is single and 3"),
             Refusal::Control => f.write_str(
                 "a client sends no command that changes how the server serves it, as HELLO does",
             ),
@@ -188,14 +185,12 @@ pub fn find_loose_byte<'a>(line: &[u8]) -> Option<LineFault<'a>> {
 /// Why the event of the line was refused, by the digit that was written of it.
 pub fn find_refusal(digit: u8, line: &[u8]) -> Refusal<'_> {
     let (kind, rest) = first_word(line);
-    let (name, rest) = first_word(rest);
-    let (shape, _) = first_word(rest);
+    let (name, _) = first_word(rest);
     match (digit, kind) {
         (b'1', b"say" | b"bytes") => Refusal::NoRaw(name),
         (b'1', b"ask" | b"do" | b"poll" | b"show") => Refusal::NoClient(name),
         (b'1', _) => Refusal::NoLink(name),
         (b'2', _) => Refusal::NameTaken(name),
-        (b'5', b"client") if !matches!(shape, b"single") => Refusal::Mode,
         (b'5', b"do") => Refusal::Control,
         (b'5', b"poll") => Refusal::NoNumber,
         (b'5', _) => Refusal::Stopped,
@@ -222,8 +217,9 @@ fn form_of(kind: &[u8]) -> Option<&'static str> {
         b"say" => Some("say R WORD.., each word in its printed form"),
         b"bytes" => Some("bytes R TEXT, the text in its printed form"),
         b"client" => Some(
-            "client X single 3 MODE CAPACITY [noloop] [prefix P].., the mode default, optin, \
-             optout or bcast, the capacity from 1 to 1000000, and prefixes with bcast alone",
+            "client X SHAPE PROTO MODE CAPACITY [noloop] [prefix P].., the shape single or pair, \
+             the protocol 3 or of a pair 2, the mode default, optin, optout or bcast, the capacity \
+             from 1 to 1000000, and prefixes with bcast alone",
         ),
         b"out" => Some("out L [N]"),
         b"serve" => Some("serve L [N]"),

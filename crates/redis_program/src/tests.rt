@@ -480,11 +480,6 @@ fn a_person_is_told_what_is_wrong_with_a_line(rt: HostRuntime) -> Result<(), Fai
         (b'3', "serve r 1", "fewer bytes are there than it moves"),
         (
             b'5',
-            "client x pair 3 bcast 1 prefix k",
-            "no such client is served yet: it is single and 3",
-        ),
-        (
-            b'5',
             "poll x 9",
             "the client gave no command this number, or handed its reply out before",
         ),

@@ -3,6 +3,7 @@ mod cuts;
 mod drops;
 mod effects;
 mod modes;
+mod pairs;
 mod redirection;
 mod reference_client;
 mod reference_links;

@@ -10,21 +10,22 @@ use Rattle.server_links.specs.declared.link.LinkMove.TheVariants as moves
 use Rattle.server_links.specs.LinkEvent.{Over}
 use Rattle.server_links.specs.LinksState.{at_place}
 use Rattle.server_links.specs.LinkSteps.{place_of}
+use Rattle.server_links.specs.OneHistory.{read_on}
 use Rattle.server_links.specs.Outcome.{within}
 use Rattle.server_links.specs.Transcript.{heard_at, is_place, reads_at}
 use Rattle.server_links.proofs.Names.{place_is}
 use Rattle.server_links.proofs.Outcomes.{Meets, meets_then}
-use Rattle.world_run.specs.WorldState.{WorldState, client_of_link, member_at}
-use Rattle.world_run.specs.Members.{Seat, seat_at, with_seat}
+use Rattle.world_run.specs.WorldState.{EndState, WorldState, client_at, end_at, end_of_link}
+use Rattle.world_run.specs.Members.{seat_at, with_seat}
 use Rattle.world_run.specs.ClientMoves as client
 use Rattle.world_run.specs.World.{client_does, flow_at, flow_first, flow_step, links_step}
 use Rattle.world_run.specs.WorldTranscript.{flow_heard, flowing}
-use Rattle.world_run.proofs.Clients.{flow_stands, out_link, out_place, out_stands}
+use Rattle.world_run.proofs.Clients.{end_place, flow_stands, out_stands}
 use Rattle.world_run.proofs.LinkEvents.{Comes, comes_apart, comes_as, comes_client, comes_same}
 use Rattle.world_run.proofs.LinkEvents.{stands_again}
 use Rattle.world_run.proofs.Links.{name_of_event}
-use Rattle.world_run.proofs.Names.{link_nowhere, link_there}
-use Rattle.world_run.proofs.Seats.{seat_back, seated, still_below}
+use Rattle.world_run.proofs.Names.{end_nowhere, end_there}
+use Rattle.world_run.proofs.Seats.{IsEnd, end_back, seated, still_below}
 use Rattle.world_run.proofs.WorldKept.{flow_size}
 use Rattle.world_run.proofs.Worlds.{WorldPart, WorldStands}
 
@@ -45,7 +46,7 @@ module _ (l : Limits) (heard : ℕ → List ℕ) (raw : List ℕ → List ℕ) (
   found : place_of name w.links ≡ Some place
   found = place_is w.links h.links.unique name place below refl
 
-  flow_apart : client_of_link name w.members ≡ None
+  flow_apart : end_of_link name w.ends ≡ None
       → Comes l (only_at heard place (reads_at w.links place None)) raw lines
       (links_step (Over name moves.Flow) w)
   unfolding name_of_event
@@ -56,46 +57,42 @@ module _ (l : Limits) (heard : ℕ → List ℕ) (raw : List ℕ → List ℕ) (
       ∙ at_this heard (λ k. reads_at w.links k None) place i)
       (λ n. refl)
       (comes_apart l heard raw lines w h raw (Over name moves.Flow)
-      (link_nowhere name w.members none) (λ n. append-nil (raw n)))
+      (end_nowhere name w.ends none) (λ n. append-nil (raw n)))
 
-  flow_client : (at : ℕ) → client_of_link name w.members ≡ Some at
+  flow_client : (at : ℕ) → end_of_link name w.ends ≡ Some at
       → Comes l (only_at heard place (reads_at (flowing (Some at) w).links place None)) raw lines
       (client_does at client.flow w)
   unfolding client_does within
   flow_client at is =
-      let there = link_there name w.members at is in
-      let s = seat_at at w in
-      let m = member_at w.members at in
-      let v = (client.out None s).state in
-      let part = (h.each at there.0).0 in
-      let same : m.place ≡ place =
-      h.links.unique place m.place below part.below (part.placed ∙ there.1) in
-      let sent = out_stands l raw at heard None lines w (seated l heard raw at lines w h) there.0
-      in
-      let after = sent.all v (client.out None s).lines (inl (refl, refl)) in
-      let back = seat_back at w there.0 v in
-      let here = after.each at (still_below at w there.0 v) in
+      let there = end_there name w.ends at is in
+      let it : IsEnd at w = (there.0, (h.clients at there.0).0) in
+      let e = (end_at w.ends at).end in
+      let m = client.out None e (seat_at at w) in
+      let v = m.state in
       let u = with_seat at w v in
-      let link_is : (member_at u.members at).link ≡ m.link =
-      ap (λ (x : Seat). x.member.link) back ∙ out_link s in
-      let place_same : (member_at u.members at).place ≡ m.place =
-      ap (λ (x : Seat). x.member.place) back ∙ out_place s in
-      let found_then : place_of m.link v.links ≡ Some place =
-      place_is v.links after.unique m.link place
-      (subst (λ k. k < length v.links.links) (place_same ∙ same) here.below)
-      (ap (λ k. (at_place v.links.links k).name) (sym (place_same ∙ same)) ∙ here.placed ∙ link_is)
-      in
+      let same : Some e.place ≡ Some place =
+      sym (end_place w.links h.links.unique (read_on e.link lines) e (client_at w at)
+      (h.each at there.0).0)
+      ∙ ap (λ n. place_of n w.links) there.1 ∙ found in
+      let sent = out_stands l raw at heard None lines w (seated l heard raw at lines w h) it in
+      let after = sent.all v m.lines (inl (refl, refl)) in
+      let e1 = (end_at u.ends at).end in
+      let found_then : place_of e.link v.links ≡ Some e.place =
+      subst (λ (x : EndState). place_of x.end.link v.links ≡ Some x.end.place) (end_back at w it v)
+      (end_place v.links after.unique (read_on e1.link (lines ++ m.lines)) e1 (client_at u at)
+      (after.each at (still_below at w it v).0)) in
       comes_as l _ (only_at heard place (reads_at v.links place None)) raw raw lines
       (client_does at client.flow w)
-      (λ i. ap (λ q. heard i ++ cond (is_place q i) (reads_at v.links i None) []) found_then
+      (λ i. ap (λ q. heard i ++ cond (is_place q i) (reads_at v.links i None) [])
+      (found_then ∙ same)
       ∙ at_this heard (λ k. reads_at v.links k None) place i)
       (λ n. refl)
       (comes_client l heard raw lines w h
-      (λ i. heard i ++ heard_at v.links i (Over m.link (moves.Serve None))) at client.flow
-      (λ k. flow_stands l raw at heard lines w k there.0))
+      (λ i. heard i ++ heard_at v.links i (Over e.link (moves.Serve None))) at client.flow
+      (λ k. flow_stands l raw at heard lines w k it))
 
   pub flow_one : Comes l (only_at heard place (flow_heard place w)) raw lines
-      (flow_step (client_of_link name w.members) name w)
+      (flow_step (end_of_link name w.ends) name w)
   flow_one = grind (arith, flow_apart, flow_client, nat_tests)
 
 -- ---- all links flow

@@ -4,6 +4,7 @@ use Rattle.std.proofs.Common.{refl, sym, ap, ◌∙◌, append-nil, subst}
 use Rattle.std.proofs.lemmas.Grind.{flat_map-append}
 use Rattle.resp_value.specs.Lists.{IsPrefix}
 use Rattle.serial_model.specs.declared.history.Limits.{Limits}
+use Rattle.shared_cache.specs.declared.log.Wire.TheVariants.{Main}
 use Rattle.shared_cache.specs.Laws.{Every}
 use Rattle.currency.specs.Current.{Currency}
 use Rattle.script_text.specs.declared.event.Event.{Event}
@@ -11,15 +12,16 @@ use Rattle.script_text.specs.declared.line.Line.{Line}
 use Rattle.script_text.specs.Valid.{IsValid}
 use Rattle.server_links.specs.declared.fault.WorldFault.{WorldFault}
 use Rattle.server_links.specs.declared.fault.WorldFault.TheVariants as fault
+use Rattle.server_links.specs.OneHistory.{read_on}
 use Rattle.server_links.specs.Outcome.{Reached}
 use Rattle.server_links.specs.Transcript.{unless_fault}
-use Rattle.world_run.specs.WorldState.{WorldState, member_at, start_with}
+use Rattle.world_run.specs.WorldState.{WorldState, client_at, end_at, start_with}
 use Rattle.world_run.specs.WorldHistory.{AllHitsStand, AllServiced, Follows, HasOneHistory}
 use Rattle.world_run.specs.WorldHistory.{HaveLinks, HitStands, RefusalsChangeNothing, said_by}
 use Rattle.world_run.specs.WorldHistory.{StaysInHistory, said_to}
 use Rattle.world_run.specs.WorldTranscript.{after, heard, heard_at, transcript}
 use Rattle.world_run.specs.World.{StepGives, step}
-use Rattle.server_links.proofs.Names.{place_is}
+use Rattle.world_run.proofs.Clients.{client_place, end_place}
 use Rattle.world_run.proofs.Hits.{hits_stand}
 use Rattle.world_run.proofs.LinkEvents.{part_of}
 use Rattle.world_run.proofs.Others.{others_kept, printed_first}
@@ -123,14 +125,18 @@ pub step_lines : (w : WorldState) (event : Event) (new : WorldState) (printed : 
     → Reached (step w event) new printed → IsPrefix printed (step w event).lines
 step_lines w event new printed r = printed_first w event new printed r
 
--- after a schedule each client has its link
+-- after a schedule each client has its links
 pub have_links : (l : Limits) (log_max : ℕ) (events : List Event) (w : WorldState)
     → Every IsValid events → after (start_with l log_max) events ≡ Some w → HaveLinks w
 have_links l log_max events w valid e at lt =
     let s = stands_then l log_max events w valid e in
     let k = (s.each at lt).0 in
-    let m = member_at w.members at in
-    place_is w.links s.links.unique m.link m.place k.below k.placed
+    let e = (end_at w.ends at).end in
+    let m = client_at w at in (
+      end_place w.links s.links.unique (read_on e.link (transcript (start_with l log_max) events)) e
+          m k,
+      client_place w.links s.links.unique m k.member Main tt,
+    )
 
 -- a refused event leaves the world as it was, and prints nothing
 pub faults_none : RefusalsChangeNothing

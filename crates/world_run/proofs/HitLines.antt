@@ -12,6 +12,8 @@ use Rattle.serial_model.specs.declared.history.Entry.{Entry}
 use Rattle.serial_model.specs.declared.history.Limits.{Limits}
 use Rattle.serial_model.specs.Steps.{Turn, book_step}
 use Rattle.shared_cache.specs.declared.entry.CacheEntry.{CacheEntry}
+use Rattle.shared_cache.specs.declared.log.Wire.{Wire}
+use Rattle.shared_cache.specs.declared.log.Wire.TheVariants.{Main}
 use Rattle.shared_cache.specs.declared.log.ClientCall.{ClientCall}
 use Rattle.shared_cache.specs.declared.log.ClientCall.TheVariants as call
 use Rattle.shared_cache.specs.declared.log.ClientRefusal.{ClientRefusal}
@@ -32,11 +34,13 @@ use Rattle.server_links.specs.Moves.{move_of, moved}
 use Rattle.server_links.specs.Moves as link_moves
 use Rattle.server_links.specs.Outcome.{Outcome, and_then, does, within}
 use Rattle.server_links.specs.Session.{Session}
+use Rattle.world_run.specs.WorldState.{LinkEnd}
 use Rattle.world_run.specs.Members.{Seat, link_of, links_do, with_links}
 use Rattle.world_run.specs.ClientMoves.{ending_lines, feed, flow, got, got_all, got_one, hang_up}
-use Rattle.world_run.specs.ClientMoves.{held_lines, lines_of, listed_line, next_read, out, print}
-use Rattle.world_run.specs.ClientMoves.{read_values, receive, receive_bytes, receive_eof}
-use Rattle.world_run.specs.ClientMoves.{refused_lines, show, stop, take_out, turn}
+use Rattle.world_run.specs.ClientMoves.{hang_up_main, has_ended, held_lines, lines_of, listed_line}
+use Rattle.world_run.specs.ClientMoves.{next_read, out, print, read, read_values, receive}
+use Rattle.world_run.specs.ClientMoves.{receive_bytes, receive_eof, refused_lines, show, stop}
+use Rattle.world_run.specs.ClientMoves.{take_out, turn}
 
 abbrev pub NoHit : Line → Type 0
 NoHit (line.Hit name v entry at) = ⊥
@@ -181,62 +185,72 @@ abbrev pub IsAsk : ClientCall → Type 0
 IsAsk (call.Ask q) = Unit {0}
 IsAsk c = ⊥
 
-h_lines : (s : Seat) (c : ClientCall) (r : ClientReply) → (IsAsk c → ⊥) → NoHits (lines_of s c r)
-h_lines s c r n = grind (arith, h_refused, h_ending)
+h_lines : (e : LinkEnd) (s : Seat) (c : ClientCall) (r : ClientReply) → (IsAsk c → ⊥)
+    → NoHits (lines_of e s c r)
+h_lines e s c r n = grind (arith, h_refused, h_ending)
 
-pub h_turn : (c : ClientCall) (s : Seat) → (IsAsk c → ⊥) → Hitless (turn c s)
+pub h_turn : (c : ClientCall) (e : LinkEnd) (s : Seat) → (IsAsk c → ⊥) → Hitless (turn c e s)
 unfolding turn
-h_turn c s n = grind (arith, h_then, h_lines)
+h_turn c e s n = grind (arith, h_then, h_lines)
 
-h_taking : (most : ℕ) (s : Seat) → Hitless (take_out most s)
+h_taking : (most : ℕ) (e : LinkEnd) (s : Seat) → Hitless (take_out most e s)
 unfolding take_out
-h_taking most s = grind (arith, h_then, h_turn, h_links)
+h_taking most e s = grind (arith, h_then, h_turn, h_links)
 
-pub h_out : (count : Option ℕ) (s : Seat) → Hitless (out count s)
-h_out count s = grind (arith, h_if, h_taking)
+pub h_out : (count : Option ℕ) (e : LinkEnd) (s : Seat) → Hitless (out count e s)
+h_out count e s = grind (arith, h_if, h_taking)
 
-h_got : (v : Value) (s : Seat) → Hitless (got v s)
-h_got v s = grind (arith, h_if, h_turn)
+h_got : (v : Value) (e : LinkEnd) (s : Seat) → Hitless (got v e s)
+h_got v e s = grind (arith, h_if, h_turn)
 
-h_got_all : (ts : List Tree) (s : Seat) → Hitless (got_all ts s)
+h_got_all : (ts : List Tree) (e : LinkEnd) (s : Seat) → Hitless (got_all ts e s)
 unfolding got_all got_one
-h_got_all [] s = tt
-h_got_all (t ∷ ts) s =
-    h_then (got_one t s) (got_all ts)
-    (h_then (does s (next_read s) []) (got (value_of t)) tt (h_got (value_of t)))
-    (h_got_all ts)
+h_got_all [] e s = tt
+h_got_all (t ∷ ts) e s =
+    h_then (got_one t e s) (got_all ts e)
+    (h_then (does s (next_read s) []) (got (value_of t) e) tt (h_got (value_of t) e))
+    (h_got_all ts e)
 
-h_stopped : (place : Option FaultPlace) (s : Seat) → Hitless (stop place s)
-h_stopped place s = grind (arith, h_if, h_then, h_turn)
+h_stopped : (place : Option FaultPlace) (e : LinkEnd) (s : Seat) → Hitless (stop place e s)
+h_stopped place e s = grind (arith, h_if, h_then, h_turn)
 
-h_values : (s : Seat) → Hitless (read_values s)
+h_values : (e : LinkEnd) (s : Seat) → Hitless (read_values e s)
 unfolding read_values
-h_values s = grind (arith, h_then, h_got_all, h_stopped)
+h_values e s = grind (arith, h_then, h_got_all, h_stopped)
 
-h_bytes : (n : ℕ) (s : Seat) → Hitless (receive_bytes n s)
+h_bytes : (n : ℕ) (e : LinkEnd) (s : Seat) → Hitless (receive_bytes n e s)
 unfolding receive_bytes
-h_bytes n s =
-    let piece = take n (link_of s).down.bytes in
-    h_then (links_do (Over s.member.link (moves.Recv (Some n))) s)
-    (λ t. and_then (feed piece t) (λ t. and_then (read_values t) hang_up))
-    (h_links (Over s.member.link (moves.Recv (Some n))) s)
+h_bytes n e s =
+    let piece = take n (link_of e s).down.bytes in
+    h_then (links_do (Over e.link (moves.Recv (Some n))) s)
+    (λ t. and_then (feed piece t) (λ t. and_then (read_values e t) (hang_up e)))
+    (h_links (Over e.link (moves.Recv (Some n))) s)
     (grind (arith, h_then, h_values, h_if, h_links))
 
-h_ended : (s : Seat) → Hitless (receive_eof s)
+h_ended : (e : LinkEnd) (s : Seat) → Hitless (receive_eof e s)
 unfolding receive_eof
-h_ended s = grind (arith, h_then, h_links, h_if, h_turn)
+h_ended e s = grind (arith, h_then, h_links, h_if, h_turn)
 
-pub h_received : (count : Option ℕ) (s : Seat) → Hitless (receive count s)
-h_received count s = grind (arith, h_if, h_then, h_bytes, h_ended)
+h_reading : (count : Option ℕ) (e : LinkEnd) (s : Seat) → Hitless (read count e s)
+h_reading count e s = grind (arith, h_if, h_then, h_bytes, h_ended)
 
-pub h_flows : (s : Seat) → Hitless (flow s)
+h_main : (w : Wire) (before : Bool) (s : Seat) → Hitless (hang_up_main w before s)
+h_main w before s = grind (arith, h_if, h_links)
+
+pub h_received : (count : Option ℕ) (e : LinkEnd) (s : Seat) → Hitless (receive count e s)
+unfolding receive
+h_received count e s =
+    h_then (read count e s) (hang_up_main e.wire (has_ended Main s)) (h_reading count e s)
+    (h_main e.wire (has_ended Main s))
+
+pub h_flows : (e : LinkEnd) (s : Seat) → Hitless (flow e s)
 unfolding flow
-h_flows s =
-    h_then (out None s) _ (h_out None s)
-    (λ t. h_then (links_do (Over t.member.link (moves.Serve None)) t) _
-    (h_links (Over t.member.link (moves.Serve None)) t)
-    (λ u. h_then (links_do (Over u.member.link (moves.Send None)) u) (receive None)
-    (h_links (Over u.member.link (moves.Send None)) u) (h_received None)))
+h_flows e s =
+    h_then (out None e s) _ (h_out None e s)
+    (λ t. h_then (links_do (Over e.link (moves.Serve None)) t) _
+    (h_links (Over e.link (moves.Serve None)) t)
+    (λ u. h_then (links_do (Over e.link (moves.Send None)) u) (receive None e)
+    (h_links (Over e.link (moves.Send None)) u) (h_received None e)))
 
 h_listed : (s : Seat) (o : Option CacheEntry) → NoHits (listed_line s o)
 h_listed s o = grind arith

@@ -1,9 +1,11 @@
 pub mod Answering
+pub mod Counts
 pub mod Linked
 pub mod Printing
 pub mod Received
 pub mod Replied
 mod Below
+mod Wires
 mod Causal
 mod Members
 mod Turns

@@ -13,7 +13,7 @@ use Rattle.server_links.specs.Transcript.{heard_at}
 use Rattle.server_links.proofs.LinksStand.{stands_part, stands_same, not_equal}
 use Rattle.server_links.proofs.Outcomes.{Meets, meets_refuses, meets_stays, meets_weaker}
 use Rattle.server_links.proofs.Outcomes.{meets_within}
-use Rattle.world_run.specs.WorldState.{WorldState, member_at}
+use Rattle.world_run.specs.WorldState.{LinkEnd, WorldState, client_at, end_at}
 use Rattle.world_run.specs.Members.{Seat, seat_at, with_seat}
 use Rattle.world_run.specs.WorldHistory.{taken_bytes}
 use Rattle.world_run.specs.World.{Stepped, client_does, links_step, on_links}
@@ -30,8 +30,10 @@ part_of l heard raw raw' lines w h same = record {
   said = h.said;
   links = stands_part l heard h.said lines w.links h.links;
   unique = h.links.unique;
-  each = λ i lt. (h.each i lt).0;
-  taken = λ i lt. (h.each i lt).1;
+  each = λ k lt. (h.each k lt).0;
+  taken = λ k lt. (h.each k lt).1;
+  clients = h.clients;
+  ends = h.ends;
   distinct = h.distinct;
   rest = λ name none. h.rest name none ∙ same name none;
 }
@@ -86,29 +88,30 @@ module _ (l : Limits) (heard : ℕ → List ℕ) (raw : List ℕ → List ℕ) (
 
   -- an event that no client's link takes part in
   pub comes_linked : (raw' : List ℕ → List ℕ) (event : LinkEvent)
-      → ((i : ℕ) → i < length w.members → let m = member_at w.members i in
-      (said_by m.link event ≡ [])
-      × ((step w.links event).fault ≡ None → read_on m.link (step w.links event).lines ≡ []))
+      → ((k : ℕ) → k < length w.ends → let n = (end_at w.ends k).end.link in
+      (said_by n event ≡ [])
+      × ((step w.links event).fault ≡ None → read_on n (step w.links event).lines ≡ []))
       → ((name : List ℕ) → NoneHas w name → raw name ++ said_by name event ≡ raw' name)
       → Comes l (λ i. heard i ++ heard_at w.links i event) raw' lines (links_step event w)
   unfolding links_step
   comes_linked raw' event quiet says =
       let hears : ℕ → List ℕ = λ i. heard i ++ heard_at w.links i event in
-      let silent : (i : ℕ) → i < length w.members → let m = member_at w.members i in
-      h.said m.link ++ said_by m.link event ≡ taken_bytes m =
-      λ i lt. (let m = member_at w.members i in
-      ap (λ x. h.said m.link ++ x) (quiet i lt).0 ∙ append-nil (h.said m.link) ∙ (h.each i lt).1)
+      let silent : (k : ℕ) → k < length w.ends → let e = (end_at w.ends k).end in
+      h.said e.link ++ said_by e.link event ≡ taken_bytes e.wire (client_at w k) =
+      λ k lt. (let n = (end_at w.ends k).end.link in
+      ap (λ x. h.said n ++ x) (quiet k lt).0 ∙ append-nil (h.said n) ∙ (h.each k lt).1)
       in
       meets_within (on_links w) (λ v ls. WorldStands l hears raw' (lines ++ ls) v)
       (λ v ls. WorldPart l raw' (lines ++ ls) v) (step w.links event)
-      (linked l heard raw raw' Stable Stable lines w h event (λ i lt. (h.each i lt).0) silent says
-      (λ i lt ok p. (
+      (linked l heard raw raw' Stable Stable lines w h event (λ k lt. (h.each k lt).0) silent says
+      (λ k lt ok p. (
         p,
-        silent i lt,
-        (let m = member_at w.members i in
-            subst (λ r. Reads r m)
-            (sym (ap (λ x. read_on m.link lines ++ x) ((quiet i lt).1 ok)
-            ∙ append-nil (read_on m.link lines))) (h.each i lt).2),
+        silent k lt,
+        (let e = end_at w.ends k in
+            let n = e.end.link in
+            subst (λ r. Reads r e (client_at w k))
+            (sym (ap (λ x. read_on n lines ++ x) ((quiet k lt).1 ok)
+            ∙ append-nil (read_on n lines))) (h.each k lt).2),
       )))
 
   -- of a link that no client has
@@ -118,11 +121,11 @@ module _ (l : Limits) (heard : ℕ → List ℕ) (raw : List ℕ → List ℕ) (
   unfolding name_of_event
   comes_apart raw' event free says =
       comes_linked raw' event
-      (λ i lt.
-      let m = member_at w.members i in
-      let differ = not_equal (name_of_event event) m.link (λ e. free i lt (sym e)) in (
-        said_other event m.link differ,
-        (λ ok. ((step_moved w.links event).ends ok).mute m.link differ),
+      (λ k lt.
+      let n = (end_at w.ends k).end.link in
+      let differ = not_equal (name_of_event event) n (λ e. free k lt (sym e)) in (
+        said_other event n differ,
+        (λ ok. ((step_moved w.links event).ends ok).mute n differ),
       ))
       (λ name none. says name)
 
@@ -133,22 +136,22 @@ module _ (l : Limits) (heard : ℕ → List ℕ) (raw : List ℕ → List ℕ) (
   unfolding Mutes Mute
   comes_unread event none puts =
       comes_linked raw event
-      (λ i lt.
-      let m = member_at w.members i in (
-        puts m.link,
-        (λ ok. (step_mutes w.links event none).ends ok m.link),
+      (λ k lt.
+      let n = (end_at w.ends k).end.link in (
+        puts n,
+        (λ ok. (step_mutes w.links event none).ends ok n),
       ))
       (λ name free. ap (λ x. raw name ++ x) (puts name) ∙ append-nil (raw name))
 
-  -- a move of a client
-  pub comes_client : (heard' : ℕ → List ℕ) (at : ℕ) (move : Seat → Outcome Seat)
+  -- a move of a client at one of its ends
+  pub comes_client : (heard' : ℕ → List ℕ) (at : ℕ) (move : LinkEnd → Seat → Outcome Seat)
       → (Holds l heard raw (Seating at [] Steady) lines w
       → One l raw at (λ ls u. Holds l heard' raw (Seating at [] Steady) ls u) lines w
-      (move (seat_at at w)))
+      (move (end_at w.ends at).end (seat_at at w)))
       → Comes l heard' raw lines (client_does at move w)
   unfolding client_does
   comes_client heard' at move f =
-      let m = move (seat_at at w) in
+      let m = move (end_at w.ends at).end (seat_at at w) in
       let k = f (seated l heard raw at lines w h) in
       meets_within (with_seat at w) (λ v ls. WorldStands l heard' raw (lines ++ ls) v)
       (λ v ls. WorldPart l raw (lines ++ ls) v) m (grind (arith, unseated))

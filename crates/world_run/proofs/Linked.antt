@@ -9,15 +9,17 @@ use Rattle.server_links.specs.LinkSteps.{over, over_named, step}
 use Rattle.server_links.specs.Outcome.{Gives, Outcome}
 use Rattle.server_links.specs.Session.{Session, session_at, with_session}
 use Rattle.server_links.proofs.Outcomes.{gives_reached, gives_within, reached_within}
+use Rattle.resp_stream.specs.Stream.{Stream}
 use Rattle.world_run.specs.WorldState.{MemberState}
 use Rattle.world_run.specs.Members.{links_do, seat, with_links}
 
-pub links_give : (ls new : LinksState) (m : MemberState) (e : LinkEvent) (lines : List Line)
-    (r : Result (Unit {0}) WorldFault) (lines' : List Line) → Gives (step ls e) lines r new lines'
-    → Gives (links_do e (seat ls m)) lines r (seat new m) lines'
+pub links_give : (ls new : LinksState) (m : MemberState) (reader : Stream) (e : LinkEvent)
+    (lines : List Line) (r : Result (Unit {0}) WorldFault) (lines' : List Line)
+    → Gives (step ls e) lines r new lines'
+    → Gives (links_do e (seat ls m reader)) lines r (seat new m reader) lines'
 unfolding links_do
-links_give ls new m e lines r lines' g =
-    gives_within (with_links (seat ls m)) (step ls e) lines r new lines' g
+links_give ls new m reader e lines r lines' g =
+    gives_within (with_links (seat ls m reader)) (step ls e) lines r new lines' g
 
 -- the same server, and as many links
 pub record Kept (old new : LinksState) : Type 0 where

@@ -4,6 +4,7 @@ use Rattle.std.proofs.Common.{Option, refl, sym, ap, subst, ◌∙◌, arith, ap
 use Rattle.std.proofs.Common.{length-append, inl, inr}
 use Rattle.std.proofs.lemmas.Bool.{cases_lt}
 use Rattle.resp_value.specs.declared.value.Value.{Value}
+use Rattle.shared_cache.specs.declared.entry.CacheEntry.{CacheEntry}
 use Rattle.shared_cache.specs.declared.log.Wire.TheVariants.{Main}
 use Rattle.shared_cache.specs.declared.log.LogEntry.{LogEntry}
 use Rattle.shared_cache.specs.declared.log.LogEntry.TheVariants as entry
@@ -19,54 +20,56 @@ use Rattle.script_text.specs.declared.line.Line.TheVariants as line
 use Rattle.server_links.specs.declared.fault.WorldFault.TheVariants.{NoMemory}
 use Rattle.server_links.specs.Outcome.{Stops, does}
 use Rattle.server_links.proofs.Outcomes.{Ends, after_ends, after_stops, stops_first, stops_here}
+use Rattle.resp_stream.specs.Stream.{begun}
 use Rattle.world_run.specs.WorldState.{MemberState}
-use Rattle.world_run.specs.Members.{Seat, log_of, seat, setup_of, with_log}
+use Rattle.world_run.specs.Members.{Seat, log_of, seat, setup_of, with_log, with_reader}
 use Rattle.world_run.specs.ClientMoves.{ask_lines, complete_at, held_line, held_lines, listed_line}
-use Rattle.world_run.specs.ClientMoves.{got_lines, poll_lines, print, send_lines, show, shown}
+use Rattle.world_run.specs.ClientMoves.{poll_lines, print, send_lines, show, shown}
 use Rattle.world_run.specs.MemberTurns.{Turned}
 use Rattle.world_run.proofs.Answering.{ask_past, turned_is}
 
--- ---- a client's answers are printed by what they were before the turn
+-- ---- a client's answers are printed by what they were before the turn, whatever its end has read
 
 module _ (s : Seat) (q : Words) (reply : ClientReply) where
   over : (reply : ClientReply)
-      → ask_lines (with_log s (entry.Ask q ∷ log_of s)) q reply ≡ ask_lines s q reply
+      → ask_lines (with_reader (with_log s (entry.Ask q ∷ log_of s)) begun) q reply
+      ≡ ask_lines s q reply
   over reply = grind arith
+
+  same_asked : (reply : ClientReply) → ask_lines (with_reader s begun) q reply ≡ ask_lines s q reply
+  same_asked reply = grind arith
 
   pub asked_before : (m : MemberState) → Turned s.member m
       → client_step (setup_of s) (log_of s) (call.Ask q)
       ≡ record { reply = reply; past = m.state.past }
-      → ask_lines (seat s.links m) q reply ≡ ask_lines s q reply
+      → ask_lines (seat s.links m begun) q reply ≡ ask_lines s q reply
   asked_before m like is =
-      ap (λ x. ask_lines x q reply) (turned_is s m like)
-      ∙ subst (λ (t : ClientTurn). ask_lines (with_log s t.past) q reply ≡ ask_lines s q reply) is
-      (ask_past (λ p. ask_lines (with_log s p) q reply ≡ ask_lines s q reply) (setup_of s)
-      (log_of s) refl q (over reply))
+      ap (λ x. ask_lines (with_reader x begun) q reply) (turned_is s m like)
+      ∙ subst (λ (t : ClientTurn). ask_lines (with_reader (with_log s t.past) begun) q reply
+      ≡ ask_lines s q reply) is
+      (ask_past (λ p. ask_lines (with_reader (with_log s p) begun) q reply ≡ ask_lines s q reply)
+      (setup_of s) (log_of s) (same_asked reply) q (over reply))
 
 module _ (s : Seat) where
   same_sent : (p : List LogEntry) (reply : ClientReply)
-      → send_lines (with_log s p) reply ≡ send_lines s reply
+      → send_lines (with_reader (with_log s p) begun) reply ≡ send_lines s reply
   same_sent p reply = grind arith
 
   pub sent_before : (reply : ClientReply) (m : MemberState) → Turned s.member m
-      → send_lines (seat s.links m) reply ≡ send_lines s reply
-  sent_before reply m like = grind (arith, turned_is, same_sent)
+      → send_lines (seat s.links m begun) reply ≡ send_lines s reply
+  sent_before reply m like =
+      ap (λ x. send_lines (with_reader x begun) reply) (turned_is s m like)
+      ∙ same_sent m.state.past reply
 
   same_polled : (n : ℕ) (p : List LogEntry) (reply : ClientReply)
-      → poll_lines (with_log s p) n reply ≡ poll_lines s n reply
+      → poll_lines (with_reader (with_log s p) begun) n reply ≡ poll_lines s n reply
   same_polled n p reply = grind arith
 
   pub polled_before : (n : ℕ) (reply : ClientReply) (m : MemberState) → Turned s.member m
-      → poll_lines (seat s.links m) n reply ≡ poll_lines s n reply
-  polled_before n reply m like = grind (arith, turned_is, same_polled)
-
-  same_got : (p : List LogEntry) (reply : ClientReply)
-      → got_lines (with_log s p) reply ≡ got_lines s reply
-  same_got p reply = grind arith
-
-  pub got_before : (reply : ClientReply) (m : MemberState) → Turned s.member m
-      → got_lines (seat s.links m) reply ≡ got_lines s reply
-  got_before reply m like = grind (arith, turned_is, same_got)
+      → poll_lines (seat s.links m begun) n reply ≡ poll_lines s n reply
+  polled_before n reply m like =
+      ap (λ x. poll_lines (with_reader x begun) n reply) (turned_is s m like)
+      ∙ same_polled n m.state.past reply
 
 -- ---- lines one after another
 
@@ -113,27 +116,39 @@ module _ (s : Seat) where
             ([], ap (λ m. held_lines m s) (sym same) ∙ sym (append-nil (held_lines n s)))
       ]
 
+  same_listed : (o : Option CacheEntry) → listed_line (with_reader s begun) o ≡ listed_line s o
+  same_listed o = grind arith
+
+  same_held : (n : ℕ) → held_lines n (with_reader s begun) ≡ held_lines n s
+  same_held zero = refl
+  same_held (suc n) = grind (arith, same_listed, same_held n)
+
   -- memory ran out where so many of them were printed
   pub show_stops : (n : ℕ) (lines : List Line) → n ≤ length (held (setup_of s) (log_of s))
-      → Stops (show s) lines NoMemory s (lines ++ held_lines n s)
+      → Stops (show s) lines NoMemory s (lines ++ held_lines n (with_reader s begun))
   unfolding show
   show_stops n lines le =
       let m = length (held (setup_of s) (log_of s)) in
       let last = line.Complete s.member.name (complete_at s) in
       let r = more_lines n m le in
-      subst (λ ls. Stops (print ls s) lines NoMemory s (lines ++ held_lines n s))
+      subst (λ hs. Stops (print (shown s) s) lines NoMemory s (lines ++ hs)) (sym (same_held n))
+      (subst (λ ls. Stops (print ls s) lines NoMemory s (lines ++ held_lines n s))
       (grind (arith, append_assoc))
-      (front_stops (held_lines n s) r.0 last lines)
+      (front_stops (held_lines n s) r.0 last lines))
 
   pub show_ends : (lines lines1 : List Line) (c : ℕ) → c ≡ complete_at s
-      → lines1 ≡ lines ++ held_lines (length (held (setup_of s) (log_of s))) s
+      → lines1 ≡ lines
+      ++ held_lines (length (held (setup_of s) (log_of s))) (with_reader s begun)
       → Ends (show s) lines s (lines1 ++ line.Complete s.member.name c ∷ [])
   unfolding show
   show_ends lines lines1 c is e =
-      let front = held_lines (length (held (setup_of s) (log_of s))) s in
+      let n = length (held (setup_of s) (log_of s)) in
       let last = line.Complete s.member.name (complete_at s) in
+      let all = e ∙ ap (λ hs. lines ++ hs) (same_held n) in
       subst (λ ls. Ends (print (shown s) s) lines s ls)
-      (grind (arith, append_assoc))
+      (sym (append_assoc lines (held_lines n s) (last ∷ []))
+      ∙ ap (λ l. l ++ last ∷ []) (sym all)
+      ∙ ap (λ k. lines1 ++ line.Complete s.member.name k ∷ []) (sym is))
       (print_ends (shown s) lines)
 
 -- ---- what is held, place by place

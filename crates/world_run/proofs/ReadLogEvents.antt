@@ -1,12 +1,15 @@
 -- What each client's log gets of what its end reads, after each event of a world.
-use Rattle.std.proofs.Common.{◌≡◌, ◌≤◌, ◌<◌, ◌⊎◌, ℕ, zero, suc, List, [], ◌∷◌, ◌++◌}
+use Rattle.std.proofs.Common.{◌≡◌, ◌≤◌, ◌<◌, ◌+◌, ◌-◌, ◌⊎◌, ℕ, zero, suc, List, [], ◌∷◌, ◌++◌}
 use Rattle.std.proofs.Common.{false, not, Some, None, Option, length, refl, sym, ap, subst}
 use Rattle.std.proofs.Common.{◌∙◌, arith, append-nil, append_assoc, inl, inr, length-append}
 use Rattle.std.proofs.Common.{length-set, slice_set}
 use Rattle.std.specs.Prelude.{◌||◌}
+use Rattle.std.specs.Option.{is_some}
 use Rattle.std.specs.Str.{bytes_eq}
 use Rattle.std.proofs.lemmas.Bool.{cases_lt}
-use Rattle.std.proofs.lemmas.List.{get_or_push, get_or_append_left}
+use Rattle.std.proofs.lemmas.Grind.{get_or-set_at}
+use Rattle.std.proofs.lemmas.List.{get_or-append_right, get_or-set_other, get_or_append_left}
+use Rattle.std.proofs.lemmas.List.{get_or_push}
 use Rattle.resp_stream.specs.Parse.{Batch}
 use Rattle.resp_stream.proofs.Onward.{no_values, none_valued}
 use Rattle.resp_value.specs.Spelling.{request_spelling}
@@ -15,7 +18,12 @@ use Rattle.serial_model.specs.declared.history.Limits.{Limits}
 use Rattle.shared_cache.specs.declared.log.ClientCall.{ClientCall}
 use Rattle.shared_cache.specs.declared.log.ClientCall.TheVariants as call
 use Rattle.shared_cache.specs.declared.log.ClientMode.{ClientMode}
-use Rattle.shared_cache.specs.declared.log.LogEntry.{LogEntry}
+use Rattle.shared_cache.specs.declared.log.Shape.{Shape}
+use Rattle.shared_cache.specs.declared.log.Shape.TheVariants.{Single, Pair}
+use Rattle.shared_cache.specs.declared.log.Wire.{Wire}
+use Rattle.shared_cache.specs.declared.log.Wire.TheVariants.{Main, Side}
+use Rattle.shared_cache.specs.Held.{Setup}
+use Rattle.shared_cache.specs.Laws.{Every}
 use Rattle.shared_cache.specs.Steps.{client_step}
 use Rattle.script_text.specs.declared.event.Event.{Event}
 use Rattle.script_text.specs.declared.event.Event.TheVariants.{Raw, Say, Bytes, Client, Out, Serve}
@@ -37,32 +45,38 @@ use Rattle.server_links.specs.Outcome.{Outcome, and_then, does, refuses, within}
 use Rattle.server_links.proofs.Carries.{read_more}
 use Rattle.server_links.proofs.LinksStand.{not_equal}
 use Rattle.server_links.proofs.Names.{placed, unplaced}
-use Rattle.world_run.specs.WorldState.{MemberState, WorldState, client_named, client_of_link}
-use Rattle.world_run.specs.WorldState.{data_link, fresh_member, member_at, no_setup}
+use Rattle.world_run.specs.WorldState.{EndState, HaveClients, LinkEnd, MemberState, WorldState}
+use Rattle.world_run.specs.WorldState.{client_at, end_at, end_of_link, fresh_end, fresh_member}
+use Rattle.world_run.specs.WorldState.{link_on, member_at, no_setup}
 use Rattle.world_run.specs.Members.{Seat, log_of, seat_at, setup_of}
 use Rattle.world_run.specs.ClientMoves as client
 use Rattle.world_run.specs.ClientMoves.{show, turn}
-use Rattle.world_run.specs.ReadLog.{Going, IsGot, has_eof, is_eof_of}
-use Rattle.world_run.specs.ScheduleLog.{answerer, noted}
-use Rattle.world_run.specs.World.{Stepped, client_does, flow_at, flow_first, flow_step, is_served}
-use Rattle.world_run.specs.World.{is_taken, join, links_step, named_does, not_served, on_links}
-use Rattle.world_run.specs.World.{out_step, raw_out, recv_step, said_step, setup_by, step}
+use Rattle.world_run.specs.ReadLog.{Going, IsGot, ReadIsGot, has_eof, is_eof_of}
+use Rattle.world_run.specs.ScheduleLog.{answerer}
+use Rattle.world_run.specs.World.{Stepped, client_does, connect, end_named, flow_at, flow_first}
+use Rattle.world_run.specs.World.{flow_step, fresh_ends, is_served, is_taken, join, links_step}
+use Rattle.world_run.specs.World.{named_does, not_served, out_step, raw_out, recv_step, said_step}
+use Rattle.world_run.specs.World.{setup_by, step}
 use Rattle.world_run.specs.World as world
 use Rattle.world_run.proofs.Flowing.{first_stands, heard_first}
 use Rattle.world_run.proofs.Joining.{raw_made}
-use Rattle.world_run.proofs.Kept.{Orderly, o_flow, o_out, o_receive, o_show, o_turn}
+use Rattle.world_run.proofs.Kept.{IsOrderly, flow_orderly, out_orderly, receive_orderly}
+use Rattle.world_run.proofs.Kept.{show_orderly, turn_orderly}
 use Rattle.world_run.proofs.Links.{IsUnread, name_of_event}
-use Rattle.world_run.proofs.Names.{client_there, link_nowhere, link_there}
+use Rattle.world_run.proofs.Names.{end_named_there, end_nowhere, end_there}
 use Rattle.world_run.proofs.ReadLogMoves.{Done, done_if, done_then}
-use Rattle.world_run.proofs.ReadLogSeats.{By, Ready, Settles, Unread, by_unread, eof_more}
-use Rattle.world_run.proofs.ReadLogSeats.{flow_settles, link_grows, receive_settles, same_out}
-use Rattle.world_run.proofs.ReadLogSeats.{same_settles, same_show, same_turn, unread_quiet, Gets}
+use Rattle.world_run.proofs.ReadLogSeats.{By, Gets, Placed, Ready, Settles, Unread, by_gets}
+use Rattle.world_run.proofs.ReadLogSeats.{by_unread, eof_more, flow_settles, gets_flow, gets_out}
+use Rattle.world_run.proofs.ReadLogSeats.{gets_receive, gets_settles, gets_show, gets_turn}
+use Rattle.world_run.proofs.ReadLogSeats.{link_grows, receive_settles, same_out, unread_quiet}
 use Rattle.world_run.proofs.ScheduleLogEvents.{made, mine, theirs}
-use Rattle.world_run.proofs.ScheduleLogLines.{Apart, q_out, q_show, q_step}
-use Rattle.world_run.proofs.ScheduleLogMoves.{Turned, ask_called, poll_called, q_flows, q_received}
-use Rattle.world_run.proofs.ScheduleLogMoves.{send_called, turn_called}
+use Rattle.world_run.proofs.ScheduleLogLines.{Apart, IsAsked, q_flow, q_out, q_receive, q_show}
+use Rattle.world_run.proofs.ScheduleLogLines.{q_step}
+use Rattle.world_run.proofs.ScheduleLogMoves.{Answered, ask_called, poll_called, send_called}
+use Rattle.world_run.proofs.ScheduleLogMoves.{turn_called}
 use Rattle.world_run.proofs.Seats.{by_place}
-use Rattle.world_run.proofs.Worlds.{WorldStands}
+use Rattle.world_run.proofs.Turns.{IsApart}
+use Rattle.world_run.proofs.Worlds.{NoneHas, WorldStands}
 
 -- no link has this name
 abbrev pub NoLink : LinksState → List ℕ → Type 0
@@ -88,10 +102,9 @@ nowhere_before : (w v : LinksState) (name : List ℕ) → NamesKept w v → NoLi
 nowhere_before w v name k none i lt e =
     none i (omega (arith, lt, k.size)) (k.names i lt ∙ e)
 
--- What is said of each client by what its end read; and nothing was read of what is no link.
+-- What is said of each end of a client by what it read; and nothing was read of what is no link.
 pub record Accounts (lines : List Line) (w : WorldState) : Type 0 where
-  pub each : (i : ℕ) → i < length w.members → let m = member_at w.members i in
-      By m.link lines m.state.past
+  pub each : (k : ℕ) → k < length w.ends → ReadIsGot lines (end_at w.ends k).end (client_at w k)
   pub apart : (name : List ℕ) → NoLink w.links name → has_eof name lines ≡ false
 
 -- where an outcome meets no fault
@@ -142,16 +155,16 @@ links_names event w = let g = link_grows event w in record { size = g.size; name
 module _ (lines : List Line) (w : WorldState) (k : Accounts lines w) where
   -- no client's end reads
   linked : (event : LinkEvent)
-      → ((i : ℕ) → i < length w.members
-      → IsUnread event ⊎ Apart (Some (member_at w.members i).link) (name_of_event event))
+      → ((i : ℕ) → i < length w.ends
+      → IsUnread event ⊎ Apart (Some (end_at w.ends i).end.link) (name_of_event event))
       → Accounted lines (links_step event w)
   unfolding links_step within
   linked event r none = record {
     each = λ i lt.
-        let m = member_at w.members i in
-        by_unread m.link lines (links.step w.links event).lines m.state.past
-        (unread_quiet m.link (links.step w.links event).lines
-        (q_step (Some m.link) event w.links (r i lt))) (k.each i lt);
+        let e = (end_at w.ends i).end in
+        by_unread e lines (links.step w.links event).lines (client_at w i).state.past
+        (unread_quiet e.link (links.step w.links event).lines
+        (q_step (Some e.link) event w.links (r i lt))) (k.each i lt);
     apart = λ name free.
         let before = nowhere_before w.links (links.step w.links event).state name
         (links_names event w.links) free in
@@ -163,75 +176,129 @@ module _ (lines : List Line) (w : WorldState) (k : Accounts lines w) where
   unread_linked event none = linked event (λ i lt. inl none)
 
   -- of a link that no client has
-  pub apart_linked : (event : LinkEvent)
-      → ((i : ℕ) → i < length w.members
-      → (member_at w.members i).link ≡ name_of_event event → ⊥)
+  pub apart_linked : (event : LinkEvent) → NoneHas w (name_of_event event)
       → Accounted lines (links_step event w)
   apart_linked event none =
-      linked event (λ i lt. inr (not_equal (name_of_event event) (member_at w.members i).link
-      (λ e. none i lt (sym e))))
+      linked event (λ i lt. inr (not_equal (name_of_event event) (end_at w.ends i).end.link
+      (λ same. none i lt (sym same))))
 
 -- ---- a client
 
+-- What a move does at an end: nothing is read on another link, nor got of it.
+pub record AtEnd (lines : List Line) (e : LinkEnd) (s : Seat) (m : Outcome Seat) : Type 0 where
+  pub own : Settles e lines m
+  pub unread : (name : List ℕ) → bytes_eq e.link name ≡ false → m.fault ≡ None
+      → Unread name m.lines
+  pub others : (u : Wire) → (u ≡ e.wire → ⊥) → Gets u (log_of s) (log_of m.state)
+
 module _ (l : Limits) (heard : ℕ → List ℕ) (raw : List ℕ → List ℕ) (lines : List Line)
     (w : WorldState) (h : WorldStands l heard raw lines w) (k : Accounts lines w) (at : ℕ)
-    (below : at < length w.members) where
+    (below : at < length w.ends) where
   abbrev S : Seat
   S = seat_at at w
 
-  abbrev Link : List ℕ
-  Link = (member_at w.members at).link
+  abbrev E : LinkEnd
+  E = (end_at w.ends at).end
 
-  pub ready : Ready Link lines S
-  ready =
+  client_below : E.client < length w.members
+  client_below = (h.clients at below).0
+
+  placed_there : Placed w.links E.link E.place
+  placed_there =
       let p = (h.each at below).0 in
+      let m = p.member in
       record {
-        linked = refl;
-        place = record { unique = h.links.unique; below = p.below; named = p.placed };
-        lone = p.mode.shape;
-        due = k.each at below;
-        reading = λ going. ((h.each at below).2 going).reading;
+        unique = h.links.unique;
+        below = subst (λ n. n < length w.links.links) (sym p.place_is) (m.below E.wire p.has);
+        named = ap (λ n. (at_place w.links.links n).name) p.place_is ∙ m.placed E.wire p.has
+            ∙ sym p.named;
       }
 
-  other_link : (i : ℕ) → i < length w.members → (i ≡ at → ⊥)
-      → (member_at w.members i).link ≡ Link → ⊥
-  other_link i lt n e = n (h.distinct at i below lt e)
+  pub ready : Ready E lines S
+  ready = record {
+    place = placed_there;
+    due = k.each at below;
+    reading = λ going. ((h.each at below).2 going).reading;
+  }
 
-  pub accounted : (move : Seat → Outcome Seat) → Orderly S (move S)
-      → ((name : List ℕ) → bytes_eq Link name ≡ false
-      → (move S).fault ≡ None → Unread name (move S).lines)
-      → Settles Link lines (move S) → Accounted lines (client_does at move w)
+  other_link : (i : ℕ) → i < length w.ends → (i ≡ at → ⊥) → (end_at w.ends i).end.link ≡ E.link
+      → ⊥
+  other_link i lt n same = n (h.distinct at i below lt same)
+
+  -- of one client each end is of a link of its own
+  other_wire_there : (i : ℕ) → i < length w.ends → (i ≡ at → ⊥)
+      → (end_at w.ends i).end.client ≡ E.client → (end_at w.ends i).end.wire ≡ E.wire → ⊥
+  other_wire_there i lt n client wire =
+      other_link i lt n ((h.each i lt).0.named
+      ∙ ap (λ u. link_on u (client_at w i).name) wire
+      ∙ ap (λ c. link_on E.wire (member_at w.members c).name) client
+      ∙ sym (h.each at below).0.named)
+
+  module _ (t : Seat) (ls : List Line) where
+    abbrev set : EndState
+    set = record { end = E; reader = t.reader }
+
+    -- which ends there are is as before
+    end_kept : (i : ℕ) → (end_at (slice_set w.ends at set) i).end ≡ (end_at w.ends i).end
+    end_kept i =
+        by_place ((end_at (slice_set w.ends at set) i).end ≡ (end_at w.ends i).end) i at
+        (λ here. ap (λ (e : EndState). e.end)
+        (get_or-set_at w.ends at i set (fresh_end 0 Main [] 0) here below)
+        ∙ ap (λ n. (end_at w.ends n).end) (sym here))
+        (λ n. ap (λ (e : EndState). e.end)
+        (get_or-set_other w.ends at i set (fresh_end 0 Main [] 0) n))
+
+    -- each end of a client stands as it did, or its client has changed
+    abbrev Stands : LinkEnd → Type 0
+    Stands e =
+        By e (lines ++ ls) (member_at (slice_set w.members E.client t.member) e.client).state.past
+
+    end_now : (i : ℕ) → i < length w.ends → By E (lines ++ ls) (log_of t)
+        → ((name : List ℕ) → bytes_eq E.link name ≡ false → Unread name ls)
+        → ((u : Wire) → (u ≡ E.wire → ⊥) → Gets u (log_of S) (log_of t))
+        → Stands (end_at w.ends i).end
+    end_now i lt own unread others =
+        let e = (end_at w.ends i).end in
+        let changed : (e : LinkEnd) → e.client ≡ E.client → By e (lines ++ ls) (log_of t)
+        → Stands e =
+        λ e same by. subst (λ (m : MemberState). By e (lines ++ ls) m.state.past)
+        (sym (mine E.client w.members t.member e.client same client_below)) by in
+        by_place (Stands e) i at
+        (λ here. subst (λ n. Stands (end_at w.ends n).end) (sym here) (changed E refl own))
+        (λ n.
+        let quiet = unread e.link (not_equal E.link e.link
+        (λ same. other_link i lt n (sym same))) in
+        by_place (Stands e) e.client E.client
+        (λ same. changed e same (by_gets e lines ls (client_at w i).state.past (log_of t)
+        (subst (λ c. Gets e.wire (member_at w.members c).state.past (log_of t)) (sym same)
+        (others e.wire (other_wire_there i lt n same))) quiet (k.each i lt)))
+        (λ differ. subst (λ (m : MemberState). By e (lines ++ ls) m.state.past)
+        (sym (theirs E.client w.members t.member e.client differ))
+        (by_unread e lines ls (client_at w i).state.past quiet (k.each i lt))))
+
+  pub accounted : (move : LinkEnd → Seat → Outcome Seat) → IsOrderly move
+      → AtEnd lines E S (move E S) → Accounted lines (client_does at move w)
   unfolding client_does within
-  accounted move orderly others own none =
-      let t = (move S).state in
-      let new = t.member in
-      let ls = (move S).lines in
-      let kept = orderly.kept.ends none in
+  accounted move orderly there none =
+      let t = (move E S).state in
+      let ls = (move E S).lines in
+      let kept = (orderly E S).kept.ends none in
       let names : NamesKept w.links t.links = record {
         size = omega (arith, kept.links.size);
         names = kept.links.stay.named;
       } in
+      let unread : (name : List ℕ) → bytes_eq E.link name ≡ false → Unread name ls =
+      λ name n. there.unread name n none in
       record {
         each = λ i lt.
-            by_place (let m = member_at (slice_set w.members at new) i in
-            By m.link (lines ++ ls) m.state.past) i at
-            (λ e. subst (λ (m : MemberState). By m.link (lines ++ ls) m.state.past)
-            (sym (mine at w new i e below))
-            (subst (λ x. By x (lines ++ ls) new.state.past) (sym kept.link) (own none)))
-            (λ n.
-            let lt' = subst (λ x. i < x) (length-set w.members at new) lt in
-            let m = member_at w.members i in
-            subst (λ (m : MemberState). By m.link (lines ++ ls) m.state.past)
-            (sym (theirs at w new i n))
-            (by_unread m.link lines ls m.state.past
-            (others m.link (not_equal Link m.link (λ e. other_link i lt' n (sym e))) none)
-            (k.each i lt')));
+            subst (Stands t ls) (sym (end_kept t ls i))
+            (end_now t ls i (subst (λ n. i < n) (length-set w.ends at (set t ls)) lt)
+            (there.own none) unread there.others);
         apart = λ name free.
             let before = nowhere_before w.links t.links name names free in
-            let p = (h.each at below).0 in
             no_eof_more name lines ls (k.apart name before)
-            (others name (not_equal Link name
-            (λ e. before (member_at w.members at).place p.below (p.placed ∙ e))) none).eof;
+            (unread name (not_equal E.link name
+            (λ same. before E.place placed_there.below (placed_there.named ∙ same)))).eof;
       }
 
 -- ---- a client is asked
@@ -240,74 +307,242 @@ answer_unread : (link : List ℕ) (l : Line) (name : List ℕ) → answerer l �
     → (read_by link l ≡ []) × (is_eof_of link l ≡ false)
 answer_unread link l name is = grind arith
 
-noted_gets : (c : ClientCall) (l : Line) (log : List LogEntry) → Gets log (noted c l ++ log)
-noted_gets (call.Ask q) l log = grind arith
-noted_gets (call.Send words) l log = grind arith
-noted_gets (call.Poll n) l log = grind arith
-noted_gets (call.TakeOut w most) l log = (refl, refl)
-noted_gets (call.Got w v) l log = (refl, refl)
-noted_gets (call.End w) l log = (refl, refl)
+asked_apart : (u : Wire) (c : ClientCall) → IsAsked c → IsApart u c
+asked_apart u (call.Ask q) is = tt
+asked_apart u (call.Send words) is = tt
+asked_apart u (call.Poll n) is = tt
+asked_apart u (call.TakeOut w most) is = absurd is
+asked_apart u (call.Got w v) is = absurd is
+asked_apart u (call.End w) is = absurd is
 
-module _ (c : ClientCall) (s : Seat)
-    (called : Turned c s (client_step (setup_of s) (log_of s) c)) where
-  asked_unread : (link : List ℕ) → (turn c s).fault ≡ None → Unread link (turn c s).lines
+module _ (c : ClientCall) (is : IsAsked c) (e : LinkEnd) (s : Seat)
+    (called : Answered c e s (client_step (setup_of s) (log_of s) c)) where
+  asked_unread : (link : List ℕ) → (turn c e s).fault ≡ None → Unread link (turn c e s).lines
   asked_unread link none =
-      let k = turn_called c s called none in
+      let k = turn_called c e s called none in
       let a = answer_unread link k.answer s.member.name k.by in
       subst (Unread link) (sym k.printed) (record {
         read = append-nil (read_by link k.answer) ∙ a.0;
         eof = ap (λ b. b || false) a.1;
       })
 
-  asked_settles : (link : List ℕ) (lines : List Line) → Ready link lines s
-      → Settles link lines (turn c s)
+  asked_gets : (u : Wire) → Gets u (log_of s) (log_of (turn c e s).state)
   unfolding turn and_then
-  asked_settles link lines r none =
-      let k = called none in
-      let new = (client_step (setup_of s) (log_of s) c).past in
-      same_settles link lines s (turn c s)
-      (same_turn c s (subst (Gets (log_of s)) (sym k.grows) (noted_gets c k.answer (log_of s))))
-      (asked_unread link none) r none
+  asked_gets u = gets_turn u (setup_of s) (log_of s) c (asked_apart u c is)
+
+-- ---- a client is made
+
+-- by these lines nothing was read on the link, nor an EOF, and nothing was got of it
+fresh_by : (e : LinkEnd) (lines : List Line) → Unread e.link lines → By e lines []
+fresh_by e lines none =
+    subst (λ r. IsGot r (has_eof e.link lines) [] Going) (sym none.read)
+    (sym no_values, ap (λ (b : Batch Tree). b.fault) none_valued, none.eof)
+
+unread_both : (name : List ℕ) (xs ys : List Line) → Unread name xs → Unread name ys
+    → Unread name (xs ++ ys)
+unread_both name xs ys a b = record {
+  read = read_more name xs ys ∙ ap (λ x. x ++ read_on name ys) a.read ∙ b.read;
+  eof = no_eof_more name xs ys a.eof b.eof;
+}
+
+every_end : (P : EndState → Type 0) (es : List EndState) → Every P es → (i : ℕ) → i < length es
+    → P (end_at es i)
+every_end P [] all i lt = absurd (omega (arith, lt))
+every_end P (e ∷ es) all zero lt = all.0
+every_end P (e ∷ es) all (suc i) lt = every_end P es all.1 i (omega (arith, lt))
+
+-- ends of the new client join the others
+module _ (lines : List Line) (w : WorldState) (k : Accounts lines w) (clients : HaveClients w)
+    (m : MemberState) (empty : m.state.past ≡ []) (fresh : List EndState)
+    (each : (i : ℕ) → i < length fresh → ((end_at fresh i).end.client ≡ length w.members)
+    × Unread (end_at fresh i).end.link lines) where
+  abbrev joined : WorldState
+  joined = record w { members = w.members ++ m ∷ []; ends = w.ends ++ fresh }
+
+  -- of an end that was there, and its client
+  old_end : (i : ℕ) → i < length w.ends
+      → ReadIsGot lines (end_at joined.ends i).end (client_at joined i)
+  old_end i lt =
+      let e = end_at w.ends i in
+      subst (λ (x : EndState). ReadIsGot lines x.end (member_at joined.members x.end.client))
+      (sym (get_or_append_left w.ends fresh (fresh_end 0 Main [] 0) i lt))
+      (subst (ReadIsGot lines e.end)
+      (sym (get_or_append_left w.members (m ∷ []) (fresh_member [] 0 0 no_setup) e.end.client
+      (clients i lt).0)) (k.each i lt))
+
+  new_end : (i : ℕ) → i < length fresh
+      → let e = (end_at fresh i).end in ReadIsGot lines e (member_at joined.members e.client)
+  new_end i lt =
+      let e = (end_at fresh i).end in
+      subst (λ (x : MemberState). By e lines x.state.past)
+      (sym (get_or_push w.members m (fresh_member [] 0 0 no_setup) e.client
+      (sym (each i lt).0)))
+      (subst (By e lines) (sym empty) (fresh_by e lines (each i lt).1))
+
+  pub accounts_joined : Accounts lines joined
+  accounts_joined = record {
+    each = λ i lt.
+        elim (cases_lt i (length w.ends)) [
+          | inl old ↦ old_end i old
+          | inr le ↦
+              let j = i - length w.ends in
+              let size = length-append w.ends fresh in
+              subst (λ (x : EndState). ReadIsGot lines x.end
+              (member_at joined.members x.end.client))
+              (sym (get_or-append_right w.ends fresh (length w.ends) i (fresh_end 0 Main [] 0)
+              refl le))
+              (new_end j (omega (arith, lt, le, size)))
+        ];
+    apart = k.apart;
+  }
+
+-- by a link that is made nothing is read
+unread_raw : (link name : List ℕ) (ls : LinksState)
+    → Unread name (links.step ls (link_event.Raw link)).lines
+unfolding IsUnread
+unread_raw link name ls = unread_quiet name _ (q_step (Some name) (link_event.Raw link) ls (inl tt))
+
+module _ (lines : List Line) (w : WorldState) (k : Accounts lines w) (clients : HaveClients w)
+    (nowhere : (name : List ℕ) → NoLink w.links name → read_on name lines ≡ [])
+    (name : List ℕ) (setup : Setup) where
+  -- no link had this name
+  free_link : (link : List ℕ) (ls : LinksState) → (links.step ls (link_event.Raw link)).fault ≡ None
+      → NoLink ls link
+  free_link link ls none = unplaced link ls (raw_made link ls none).free
+
+  unread_free : (link : List ℕ) → NoLink w.links link → Unread link lines
+  unread_free link free = record { read = nowhere link free; eof = k.apart link free }
+
+  abbrev Fresh : List Line → EndState → Type 0
+  Fresh more f = (f.end.client ≡ length w.members) × Unread f.end.link more
+
+  -- a client of one link
+  a_single : setup.mode.shape ≡ Single → Accounted lines (connect Single name setup w)
+  unfolding links_step within IsUnread
+  a_single is =
+      let link = link_on Main name in
+      let place = length w.links.links in
+      let m = links_step (link_event.Raw link) w in
+      let next = join name place place setup in
+      let more = lines ++ m.lines in
+      let new = fresh_member name place place setup in
+      done_then (λ v ls. m.fault ≡ None) (λ v ls. Accounts (lines ++ ls) v) m next (λ none. none)
+      (λ ok none.
+      let fresh = fresh_ends setup.mode.shape (length w.members) name place place in
+      let all : Every (Fresh more) fresh =
+      subst (λ s. Every (Fresh more) (fresh_ends s (length w.members) name place place)) (sym is) (
+        (
+          refl,
+          unread_both link lines m.lines (unread_free link (free_link link w.links ok))
+              (unread_raw link link w.links),
+        ),
+        tt,
+      ) in
+      subst (λ x. Accounts x (next m.state).state)
+      (ap (λ x. lines ++ x) (sym (append-nil m.lines)))
+      (accounts_joined more m.state (unread_linked lines w k (link_event.Raw link) tt ok) clients
+      new refl fresh (every_end (Fresh more) fresh all)))
+
+  -- of two, that for invalidations is made first
+  a_pair : setup.mode.shape ≡ Pair → Accounted lines (connect Pair name setup w)
+  unfolding links_step within IsUnread
+  a_pair is =
+      let side = link_on Side name in
+      let main = link_on Main name in
+      let place = length w.links.links in
+      let m = links_step (link_event.Raw side) w in
+      let v = m.state in
+      let n = links_step (link_event.Raw main) v in
+      let next = join name (place + 1) place setup in
+      let more = (lines ++ m.lines) ++ n.lines in
+      let new = fresh_member name (place + 1) place setup in
+      let Q : WorldState → List Line → Type 0 = λ v ls. Accounts (lines ++ ls) v in
+      done_if Q (is_some (place_of main w.links)) (refuses w NameTaken) _
+      (λ b. refuses_no lines w NameTaken)
+      (λ b. done_then (λ v ls. m.fault ≡ None) Q m
+      (λ w. and_then (links_step (link_event.Raw main) w) next) (λ none. none)
+      (λ ok. done_then (λ v ls. n.fault ≡ None) (λ v ls. Accounts (lines ++ (m.lines ++ ls)) v) n
+      next (λ none. none)
+      (λ okay none.
+      let k1 = unread_linked lines w k (link_event.Raw side) tt ok in
+      let k2 = unread_linked (lines ++ m.lines) v k1 (link_event.Raw main) tt okay in
+      let unread : (link : List ℕ) → NoLink w.links link → Unread link more =
+      λ link free. unread_both link (lines ++ m.lines) n.lines
+      (unread_both link lines m.lines (unread_free link free) (unread_raw side link w.links))
+      (unread_raw main link v.links) in
+      let free = free_link main v.links okay in
+      let sooner = links_names (link_event.Raw side) w.links in
+      let fresh = fresh_ends setup.mode.shape (length w.members) name (place + 1) place in
+      let all : Every (Fresh more) fresh =
+      subst (λ s. Every (Fresh more) (fresh_ends s (length w.members) name (place + 1) place))
+      (sym is) (
+        (refl, unread side (free_link side w.links ok)),
+        ((refl, unread main (nowhere_before w.links v.links main sooner free)), tt),
+      ) in
+      subst (λ x. Accounts x (next n.state).state)
+      (append_assoc lines m.lines n.lines
+      ∙ ap (λ x. lines ++ (m.lines ++ x)) (sym (append-nil n.lines)))
+      (accounts_joined more n.state k2 clients new refl fresh
+      (every_end (Fresh more) fresh all)))))
+
+  a_connect : (shape : Shape) → setup.mode.shape ≡ shape
+      → Accounted lines (connect shape name setup w)
+  a_connect Single is = a_single is
+  a_connect Pair is = a_pair is
 
 -- ---- events
 
 module _ (l : Limits) (heard : ℕ → List ℕ) (raw : List ℕ → List ℕ) (lines : List Line)
     (w : WorldState) (h : WorldStands l heard raw lines w) (k : Accounts lines w) where
-  a_flow : (name : List ℕ) → Accounted lines (flow_step (client_of_link name w.members) name w)
-  unfolding name_of_event
-  a_flow name =
-      elim (client_of_link name w.members) as (λ c. client_of_link name w.members ≡ c
-      → Accounted lines (flow_step c name w)) [
-        | None ↦ λ none.
-            apart_linked lines w k (link_event.Over name moves.Flow)
-            (link_nowhere name w.members none)
-        | Some at ↦ λ is.
-            let below = (link_there name w.members at is).0 in
-            let s = seat_at at w in
-            let r = ready l heard raw lines w h k at below in
-            accounted l heard raw lines w h k at below client.flow (o_flow s)
-            (λ n differ none. unread_quiet n (client.flow s).lines (q_flows (Some n) s differ))
-            (flow_settles s.member.link lines s r)
+  -- a move of a client at the end of this link, where there is one
+  at_link : (name : List ℕ) (step : Option ℕ → Stepped) (move : LinkEnd → Seat → Outcome Seat)
+      → ((at : ℕ) → step (Some at) ≡ client_does at move w) → IsOrderly move
+      → ((e : LinkEnd) (s : Seat) → Ready e lines s → AtEnd lines e s (move e s))
+      → (end_of_link name w.ends ≡ None → Accounted lines (step None))
+      → Accounted lines (step (end_of_link name w.ends))
+  at_link name step move is orderly settling none =
+      elim (end_of_link name w.ends) as (λ c. end_of_link name w.ends ≡ c
+      → Accounted lines (step c)) [
+        | None ↦ none
+        | Some at ↦ λ there.
+            let below = (end_there name w.ends at there).0 in
+            subst (Accounted lines) (sym (is at))
+            (accounted l heard raw lines w h k at below move orderly
+            (settling (end_at w.ends at).end (seat_at at w)
+            (ready l heard raw lines w h k at below)))
       ] refl
 
+  -- of no client
+  a_apart : (name : List ℕ) (event : LinkEvent) → name_of_event event ≡ name
+      → end_of_link name w.ends ≡ None → Accounted lines (links_step event w)
+  a_apart name event is none =
+      apart_linked lines w k event
+      (subst (NoneHas w) (sym is) (end_nowhere name w.ends none))
+
+  a_flow : (name : List ℕ) → Accounted lines (flow_step (end_of_link name w.ends) name w)
+  unfolding name_of_event
+  a_flow name =
+      at_link name (λ c. flow_step c name w) client.flow (λ at. refl) flow_orderly
+      (λ e s r. record {
+        own = flow_settles e lines s r;
+        unread = λ n apart none. unread_quiet n (client.flow e s).lines (q_flow (Some n) e s apart);
+        others = λ u other. gets_flow e u other s;
+      })
+      (a_apart name (link_event.Over name moves.Flow) refl)
+
   a_recv : (name : List ℕ) (count : Option ℕ)
-      → Accounted lines (recv_step (client_of_link name w.members) name count w)
+      → Accounted lines (recv_step (end_of_link name w.ends) name count w)
   unfolding name_of_event
   a_recv name count =
-      elim (client_of_link name w.members) as (λ c. client_of_link name w.members ≡ c
-      → Accounted lines (recv_step c name count w)) [
-        | None ↦ λ none.
-            apart_linked lines w k (link_event.Over name (moves.Recv count))
-            (link_nowhere name w.members none)
-        | Some at ↦ λ is.
-            let below = (link_there name w.members at is).0 in
-            let s = seat_at at w in
-            let r = ready l heard raw lines w h k at below in
-            accounted l heard raw lines w h k at below (client.receive count) (o_receive count s)
-            (λ n differ none. unread_quiet n (client.receive count s).lines
-            (q_received (Some n) count s differ))
-            (receive_settles s.member.link count lines s r)
-      ] refl
+      at_link name (λ c. recv_step c name count w) (client.receive count) (λ at. refl)
+      (receive_orderly count)
+      (λ e s r. record {
+        own = receive_settles e count lines s r;
+        unread = λ n apart none.
+            unread_quiet n (client.receive count e s).lines (q_receive (Some n) e count s apart);
+        others = λ u other. gets_receive e u other count s;
+      })
+      (a_apart name (link_event.Over name (moves.Recv count)) refl)
 
   a_raw_out : (p count : Option ℕ) → Accounted lines (raw_out p count w)
   a_raw_out None count = refuses_no lines w NoName
@@ -315,113 +550,72 @@ module _ (l : Limits) (heard : ℕ → List ℕ) (raw : List ℕ → List ℕ) (
   a_raw_out (Some at) (Some n) = refuses_no lines w NothingThere
 
   a_out : (name : List ℕ) (count : Option ℕ)
-      → Accounted lines (out_step (client_of_link name w.members) name count w)
+      → Accounted lines (out_step (end_of_link name w.ends) name count w)
   a_out name count =
-      elim (client_of_link name w.members) as (λ c. client_of_link name w.members ≡ c
-      → Accounted lines (out_step c name count w)) [
-        | None ↦ λ none. a_raw_out (place_of name w.links) count
-        | Some at ↦ λ is.
-            let below = (link_there name w.members at is).0 in
-            let s = seat_at at w in
-            let r = ready l heard raw lines w h k at below in
-            accounted l heard raw lines w h k at below (client.out count) (o_out count s)
-            (λ n differ none. unread_quiet n (client.out count s).lines
-            (q_out (Some n) count s))
-            (same_settles s.member.link lines s (client.out count s) (same_out count s)
-            (unread_quiet s.member.link (client.out count s).lines
-            (q_out (Some s.member.link) count s)) r)
-      ] refl
+      at_link name (λ c. out_step c name count w) (client.out count) (λ at. refl)
+      (out_orderly count)
+      (λ e s r.
+      let quiet : (n : List ℕ) → Unread n (client.out count e s).lines =
+      λ n. unread_quiet n (client.out count e s).lines (q_out (Some n) e count s) in
+      record {
+        own = gets_settles e lines s (client.out count e s) (same_out e count s).gets
+            (quiet e.link) r.due;
+        unread = λ n apart none. quiet n;
+        others = λ u other. gets_out e u other count s;
+      })
+      (λ none. a_raw_out (place_of name w.links) count)
 
   a_said : (name bytes : List ℕ)
-      → Accounted lines (said_step (client_of_link name w.members) name bytes w)
+      → Accounted lines (said_step (end_of_link name w.ends) name bytes w)
   unfolding IsUnread
   a_said name bytes =
-      elim (client_of_link name w.members) as (λ c.
-      Accounted lines (said_step c name bytes w)) [
+      elim (end_of_link name w.ends) as (λ c. Accounted lines (said_step c name bytes w)) [
         | None ↦ unread_linked lines w k (link_event.Put name bytes) tt
         | Some at ↦ refuses_no lines w NoName
       ]
 
-  a_named : (name : List ℕ) (move : Seat → Outcome Seat)
-      → ((s : Seat) → Orderly s (move s))
-      → ((s : Seat) (link : List ℕ) → (move s).fault ≡ None → Unread link (move s).lines)
-      → ((s : Seat) (link : List ℕ) → Ready link lines s → Settles link lines (move s))
-      → Accounted lines (named_does (client_named name w.members) move w)
-  a_named name move orderly none own =
-      elim (client_named name w.members) as (λ c. client_named name w.members ≡ c
+  -- a move of a client that reads nothing
+  a_named : (name : List ℕ) (move : LinkEnd → Seat → Outcome Seat) → IsOrderly move
+      → ((e : LinkEnd) (s : Seat) (link : List ℕ) → (move e s).fault ≡ None
+      → Unread link (move e s).lines)
+      → ((e : LinkEnd) (s : Seat) (u : Wire) → Gets u (log_of s) (log_of (move e s).state))
+      → Accounted lines (named_does (end_named name w) move w)
+  a_named name move orderly unread gets =
+      elim (end_named name w) as (λ c. end_named name w ≡ c
       → Accounted lines (named_does c move w)) [
         | None ↦ λ is. refuses_no lines w NoName
         | Some at ↦ λ is.
-            let below = (client_there name w.members at is).0 in
+            let below = (end_named_there name w at is).0 in
+            let e = (end_at w.ends at).end in
             let s = seat_at at w in
-            accounted l heard raw lines w h k at below move (orderly s)
-            (λ n differ. none s n)
-            (own s s.member.link (ready l heard raw lines w h k at below))
+            accounted l heard raw lines w h k at below move orderly (record {
+              own = λ none.
+                  gets_settles e lines s (move e s) (gets e s e.wire) (unread e s e.link none)
+                  (k.each at below) none;
+              unread = λ n apart none. unread e s n none;
+              others = λ u other. gets e s u;
+            })
       ] refl
 
-  a_asked : (name : List ℕ) (c : ClientCall)
-      → ((s : Seat) → Turned c s (client_step (setup_of s) (log_of s) c))
-      → Accounted lines (named_does (client_named name w.members) (turn c) w)
-  a_asked name c called =
-      a_named name (turn c) (o_turn c) (λ s link. asked_unread c s (called s) link)
-      (λ s link. asked_settles c s (called s) link lines)
-
-  -- ---- a client is made
-
-  a_joined : (name : List ℕ) (mode : ClientMode) (capacity : ℕ)
-      → Accounted lines (made name mode capacity w)
-  unfolding links_step within IsUnread name_of_event
-  a_joined name mode capacity =
-      let link = data_link name in
-      let event = link_event.Raw link in
-      let m = links_step event w in
-      let new = fresh_member name (length w.links.links) (setup_by w mode capacity) in
-      let more : List Line = lines ++ ([] ++ (m.lines ++ [])) in
-      done_then (λ v ls. (v ≡ w) × (ls ≡ [])) (λ v ls. Accounts (lines ++ ls) v) (does w w [])
-      (λ w. and_then (links_step event w)
-      (join name (length w.links.links) (setup_by w mode capacity))) (λ none. (refl, refl))
-      (λ same. done_then (λ v ls. (m.fault ≡ None) × (v ≡ m.state))
-      (λ v ls. Accounts (lines ++ ([] ++ ls)) v) m
-      (join name (length w.links.links) (setup_by w mode capacity)) (λ none. (none, refl))
-      (λ p none.
-      let free : NoLink w.links link = unplaced link w.links (raw_made link w.links p.0).free in
-      let first = unread_linked lines w k event tt p.0 in
-      let quiet = unread_nowhere event w.links link free in
-      let same_lines : lines ++ m.lines ≡ more =
-      ap (λ x. lines ++ x) (sym (append-nil m.lines)) in
-      let read : read_on link more ≡ [] =
-      ap (read_on link) (sym same_lines) ∙ read_more link lines m.lines
-      ∙ ap (λ x. x ++ read_on link m.lines) (h.links.unread link free) ∙ quiet.read in
-      let eof : has_eof link more ≡ false =
-      ap (has_eof link) (sym same_lines)
-      ∙ no_eof_more link lines m.lines (k.apart link free) quiet.eof in
-      let size = length-append w.members (new ∷ []) in
-      record {
-        each = λ i lt.
-            elim (cases_lt i (length w.members)) [
-              | inl old ↦
-                  subst (λ (c : MemberState). By c.link more c.state.past)
-                  (sym (get_or_append_left w.members (new ∷ []) (fresh_member [] 0 no_setup) i old))
-                  (subst (λ x. let c = member_at w.members i in By c.link x c.state.past)
-                  same_lines (first.each i old))
-              | inr le ↦
-                  subst (λ (c : MemberState). By c.link more c.state.past)
-                  (sym (get_or_push w.members new (fresh_member [] 0 no_setup) i
-                  (omega (arith, le, lt, size))))
-                  (subst (λ b. IsGot b (has_eof link more) [] Going) (sym read)
-                  (sym no_values, ap (λ (b : Batch Tree). b.fault) none_valued, eof))
-            ];
-        apart = λ name free. subst (λ x. has_eof name x ≡ false) same_lines (first.apart name free);
-      }))
+  a_asked : (name : List ℕ) (c : ClientCall) → IsAsked c
+      → ((e : LinkEnd) (s : Seat) → Answered c e s (client_step (setup_of s) (log_of s) c))
+      → Accounted lines (named_does (end_named name w) (turn c) w)
+  a_asked name c is called =
+      a_named name (turn c) (turn_orderly c) (λ e s. asked_unread c is e s (called e s))
+      (λ e s. asked_gets c is e s (called e s))
 
   a_client : (name : List ℕ) (mode : ClientMode) (capacity : ℕ)
       → Accounted lines (world.client_step name mode capacity w)
   a_client name mode capacity =
+      let setup = setup_by w mode capacity in
       let Q : WorldState → List Line → Type 0 = λ v ls. Accounts (lines ++ ls) v in
       done_if Q (not (is_served mode)) (refuses w (Refused not_served)) _
       (λ b. refuses_no lines w (Refused not_served))
       (λ b. done_if Q (is_taken name w) (refuses w NameTaken) (made name mode capacity w)
-      (λ b. refuses_no lines w NameTaken) (λ b. a_joined name mode capacity))
+      (λ b. refuses_no lines w NameTaken)
+      (λ b. done_then (λ v ls. (v ≡ w) × (ls ≡ [])) Q (does w w []) (connect mode.shape name setup)
+      (λ none. (refl, refl))
+      (λ same. a_connect lines w k h.clients h.links.unread name setup mode.shape refl)))
 
   a_raw : (name : List ℕ) → Accounted lines (world.raw_step name w)
   unfolding IsUnread
@@ -471,13 +665,12 @@ module _ (l : Limits) (heard : ℕ → List ℕ) (raw : List ℕ → List ℕ) (
   event_accounts (Now moment) = unread_linked lines w k (link_event.Now moment) tt
   event_accounts Tick = unread_linked lines w k link_event.Tick tt
   event_accounts (Ask name q) =
-      a_asked l heard raw lines w h k name (call.Ask q) (λ s. ask_called s q)
+      a_asked l heard raw lines w h k name (call.Ask q) tt (λ e s. ask_called e s q)
   event_accounts (Do name words) =
-      a_asked l heard raw lines w h k name (call.Send words) (λ s. send_called s words)
+      a_asked l heard raw lines w h k name (call.Send words) tt (λ e s. send_called e s words)
   event_accounts (Poll name n) =
-      a_asked l heard raw lines w h k name (call.Poll n) (λ s. poll_called s n)
+      a_asked l heard raw lines w h k name (call.Poll n) tt (λ e s. poll_called e s n)
   event_accounts (Show name) =
-      a_named l heard raw lines w h k name show o_show
-      (λ s link none. unread_quiet link (show s).lines (q_show (Some link) s))
-      (λ s link. same_settles link lines s (show s) (same_show s)
-      (unread_quiet link (show s).lines (q_show (Some link) s)))
+      a_named l heard raw lines w h k name (λ e. show) show_orderly
+      (λ e s link none. unread_quiet link (show s).lines (q_show (Some link) s))
+      (λ e s u. gets_show u s)

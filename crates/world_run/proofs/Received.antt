@@ -16,6 +16,7 @@ use Rattle.server_links.specs.Outcome.{Stops, and_then}
 use Rattle.server_links.proofs.Items as items
 use Rattle.server_links.proofs.Items.{Reads, Runner, Runs}
 use Rattle.server_links.proofs.Outcomes.{Ends}
+use Rattle.world_run.specs.WorldState.{LinkEnd}
 use Rattle.world_run.specs.Members.{Seat, with_reader}
 use Rattle.world_run.specs.ClientMoves.{got, got_all, got_one, next_read, turn}
 
@@ -24,39 +25,42 @@ pub reads_less : (now new : Stream) (t : Tree) → value_at now.rest ≡ Whole t
 reads_less now new t is = takes_values.some now t new.rest is
 
 -- a value that is got leaves the reader
-pub got_reader : (v : Value) (s : Seat) → (got v s).state.member.reader ≡ s.member.reader
+pub got_reader : (v : Value) (e : LinkEnd) (s : Seat) → (got v e s).state.reader ≡ s.reader
 unfolding turn and_then
-got_reader v s = grind arith
+got_reader v e s = grind arith
 
-abbrev pub values : Runner Seat Tree
-values = record {
+abbrev pub values : LinkEnd → Runner Seat Tree
+values e = record {
   read = value_at;
   past = λ r. r;
   all = parse_values;
-  reader = λ s. s.member.reader;
+  reader = λ s. s.reader;
   with_reader = with_reader;
   next = next_read;
-  brings = λ t. got (value_of t);
-  one = got_one;
-  run = got_all;
+  brings = λ t. got (value_of t) e;
+  one = λ t. got_one t e;
+  run = λ ts. got_all ts e;
 }
 
-pub values_run : Runs values
+pub values_run : (e : LinkEnd) → Runs (values e)
 unfolding got_one got_all
-values_run = grind (arith, values_whole, values_more, values_bad)
+values_run e = grind (arith, values_whole, values_more, values_bad)
 
 -- the value that begins what was read is got
-module _ (s0 s : Seat) (lines0 lines : List Line) (h : Reads values s0 s lines0 lines) (v : Value)
-    (new : Stream) (is : value_at s.member.reader.rest ≡ Whole (tree_of v) new.rest)
-    (moved : new ≡ moved_on s.member.reader new.rest) (t : Seat) (lines1 : List Line) where
-  pub reads_more : t.member.reader ≡ new → Ends (got v (with_reader s new)) lines t lines1
-      → Reads values s0 t lines0 lines1
+module _ (e : LinkEnd) (s0 s : Seat) (lines0 lines : List Line)
+    (h : Reads (values e) s0 s lines0 lines) (v : Value) (new : Stream)
+    (is : value_at s.reader.rest ≡ Whole (tree_of v) new.rest)
+    (moved : new ≡ moved_on s.reader new.rest) (t : Seat) (lines1 : List Line) where
+  pub reads_more : t.reader ≡ new → Ends (got v e (with_reader s new)) lines t lines1
+      → Reads (values e) s0 t lines0 lines1
   reads_more same g =
-      items.reads_more values values_run s0 s lines0 lines h (tree_of v) new is moved t lines1 same
-      (subst (λ x. Ends (got x (with_reader s new)) lines t lines1) (sym (value_back v)) g)
+      items.reads_more (values e) (values_run e) s0 s lines0 lines h (tree_of v) new is moved t
+      lines1 same
+      (subst (λ x. Ends (got x e (with_reader s new)) lines t lines1) (sym (value_back v)) g)
 
-  pub reads_stop : (fault : WorldFault) → Stops (got v (with_reader s new)) lines fault t lines1
-      → Stops (items.read_all values s0) lines0 fault t lines1
+  pub reads_stop : (fault : WorldFault) → Stops (got v e (with_reader s new)) lines fault t lines1
+      → Stops (items.read_all (values e) s0) lines0 fault t lines1
   reads_stop fault g =
-      items.reads_stop values values_run s0 s lines0 lines h (tree_of v) new is moved fault t lines1
-      (subst (λ x. Stops (got x (with_reader s new)) lines fault t lines1) (sym (value_back v)) g)
+      items.reads_stop (values e) (values_run e) s0 s lines0 lines h (tree_of v) new is moved fault
+      t lines1
+      (subst (λ x. Stops (got x e (with_reader s new)) lines fault t lines1) (sym (value_back v)) g)

@@ -8,11 +8,12 @@ use Rattle.serial_model.specs.declared.history.Entry.{Entry}
 use Rattle.serial_model.specs.History.{Sending, run_entries, runs_of, sent}
 use Rattle.shared_cache.specs.declared.log.LogEntry.{LogEntry}
 use Rattle.shared_cache.specs.declared.log.Shape.TheVariants.{Single}
+use Rattle.shared_cache.specs.declared.log.Wire.{Wire}
 use Rattle.shared_cache.specs.declared.log.Wire.TheVariants.{Main}
 use Rattle.shared_cache.specs.Log.{is_ended}
 use Rattle.shared_cache.specs.Laws.{gots}
 use Rattle.currency.specs.Links.{Client}
-use Rattle.currency.specs.Points.{before_first, complete, last_named, names_key}
+use Rattle.currency.specs.Points.{before_first, complete, complete_on, last_named, names_key}
 use Rattle.currency.proofs.Runs.{in_order, ran_at as run_at}
 use Rattle.server_links.specs.Notes.{sent_entries}
 
@@ -33,22 +34,27 @@ first_none zero (s ∷ ss) all h = absurd (let no : ⊥ = cc in no)
 first_none (suc n) [] all h = refl
 first_none (suc n) (s ∷ ss) all h = first_none n ss all h
 
-module _ (l : Limits) (x : Client) (past : List Entry) (log : List LogEntry)
-    (single : x.setup.mode.shape ≡ Single) where
-  going : is_ended x.setup.mode Main log ≡ false
-      → complete l x past log
-      ≡ before_first (drop (length (gots Main log)) (sent l (x.id Main) past)) (length past)
+module _ (l : Limits) (x : Client) (w : Wire) (past : List Entry) (log : List LogEntry) where
+  going : is_ended x.setup.mode w log ≡ false
+      → complete_on l x w past log
+      ≡ before_first (drop (length (gots w log)) (sent l (x.id w) past)) (length past)
   going e = grind arith
 
-  pub complete_some : is_ended x.setup.mode Main log ≡ false → (n e : ℕ)
-      → n ≡ length (gots Main log)
-      → slice_get (sent_entries l (x.id Main) past) n ≡ Some e → e - 1 ≡ complete l x past log
+  pub complete_some : is_ended x.setup.mode w log ≡ false → (n e : ℕ)
+      → n ≡ length (gots w log)
+      → slice_get (sent_entries l (x.id w) past) n ≡ Some e → e - 1 ≡ complete_on l x w past log
   complete_some on n e is h = grind (arith, going, first_some)
 
-  pub complete_none : is_ended x.setup.mode Main log ≡ false → (n : ℕ)
-      → n ≡ length (gots Main log)
-      → slice_get (sent_entries l (x.id Main) past) n ≡ None → length past ≡ complete l x past log
+  pub complete_none : is_ended x.setup.mode w log ≡ false → (n : ℕ)
+      → n ≡ length (gots w log)
+      → slice_get (sent_entries l (x.id w) past) n ≡ None
+      → length past ≡ complete_on l x w past log
   complete_none on n is h = grind (arith, going, first_none)
+
+-- the least over its one link
+pub complete_single : (l : Limits) (x : Client) (past : List Entry) (log : List LogEntry)
+    → x.setup.mode.shape ≡ Single → complete_on l x Main past log ≡ complete l x past log
+complete_single l x past log is = grind arith
 
 -- ---- the last entry that names a key
 

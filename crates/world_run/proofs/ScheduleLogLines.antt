@@ -2,7 +2,7 @@
 -- the link that is read.
 use Rattle.std.proofs.Common.{◌≡◌, ◌⊎◌, ℕ, zero, suc, List, [], ◌∷◌, ◌++◌, Bool, true, false, cond}
 use Rattle.std.proofs.Common.{Some, None, Option, take, inl, inr, refl, sym, ap, ◌∙◌, arith}
-use Rattle.std.proofs.Common.{subst}
+use Rattle.std.proofs.Common.{not, subst}
 use Rattle.std.specs.Prelude.{◌||◌, ◌&&◌, length, nat_le, option_to_list}
 use Rattle.std.specs.Str.{bytes_eq}
 use Rattle.resp_value.specs.Tree.{Tree}
@@ -22,7 +22,8 @@ use Rattle.shared_cache.specs.declared.log.ClientCall.{ClientCall}
 use Rattle.shared_cache.specs.declared.log.ClientCall.TheVariants as call
 use Rattle.shared_cache.specs.declared.log.ClientRefusal.{ClientRefusal}
 use Rattle.shared_cache.specs.declared.log.ClientReply.{ClientReply}
-use Rattle.shared_cache.specs.declared.log.Wire.TheVariants.{Main}
+use Rattle.shared_cache.specs.declared.log.Wire.{Wire}
+use Rattle.shared_cache.specs.declared.log.Wire.TheVariants.{Main, Side}
 use Rattle.shared_cache.specs.Held.{held, held_in_place}
 use Rattle.shared_cache.specs.Steps.{client_step}
 use Rattle.script_text.specs.declared.line.Line.{Line}
@@ -45,12 +46,13 @@ use Rattle.server_links.specs.Outcome.{Outcome, and_then, does, refuses, stays, 
 use Rattle.server_links.specs.Session.{Session, session_at}
 use Rattle.server_links.proofs.Moving.{every_named, every_send_all, every_serve_all}
 use Rattle.server_links.proofs.Names.{placed}
+use Rattle.world_run.specs.WorldState.{LinkEnd, link_on}
 use Rattle.world_run.specs.Members.{Seat, link_of, links_do, log_of, setup_of, with_links, with_log}
 use Rattle.world_run.specs.ClientMoves.{answers, bytes_of, complete_at, ending_lines, fault_of}
-use Rattle.world_run.specs.ClientMoves.{feed, got, got_all, got_one, hang_up, has_ended, held_lines}
-use Rattle.world_run.specs.ClientMoves.{lines_of, listed_line, next_read, out, print, read_values}
-use Rattle.world_run.specs.ClientMoves.{receive_bytes, receive_eof, rest_read, show, shown, stop}
-use Rattle.world_run.specs.ClientMoves.{take_out, turn}
+use Rattle.world_run.specs.ClientMoves.{feed, flow, got, got_all, got_one, hang_up, hang_up_main}
+use Rattle.world_run.specs.ClientMoves.{has_ended, held_lines, lines_of, listed_line, next_read}
+use Rattle.world_run.specs.ClientMoves.{out, print, read, read_values, receive, receive_bytes}
+use Rattle.world_run.specs.ClientMoves.{receive_eof, rest_read, show, shown, stop, take_out, turn}
 use Rattle.world_run.specs.ReadLog.{has_eof, is_eof_of}
 use Rattle.world_run.specs.ScheduleLog.{answer_by, answerer, answers_of}
 use Rattle.world_run.proofs.Links.{IsUnread, name_of_event}
@@ -117,7 +119,7 @@ no_read name (l ∷ ls) a =
 abbrev pub Quiets : {S : Type 0} → Option (List ℕ) → Outcome S → Type 0
 Quiets o m = AllQuiet o m.lines
 
-pub q_then : {S : Type 0} → (o : Option (List ℕ)) (m : Outcome S) (next : S → Outcome S)
+q_then : {S : Type 0} → (o : Option (List ℕ)) (m : Outcome S) (next : S → Outcome S)
     → Quiets o m → (m.fault ≡ None → Quiets o (next m.state)) → Quiets o (and_then m next)
 unfolding and_then
 q_then o m next a g =
@@ -246,13 +248,13 @@ module _ (o : Option (List ℕ)) where
       q_then o _ _ (q_read s.link.name s.link.down.bytes apart)
       (λ none. q_eof s.link.name _ apart)
 
-  q_receive : (count : Option ℕ) (s : Session) → Apart o s.link.name
+  q_session : (count : Option ℕ) (s : Session) → Apart o s.link.name
       → Quiets o (link_moves.receive count s)
-  q_receive count s apart = grind (arith, q_receive_all, q_if, q_read)
+  q_session count s apart = grind (arith, q_receive_all, q_if, q_read)
 
-  q_flow : (s : Session) → Apart o s.link.name → Quiets o (link_moves.flow s)
+  q_session_flow : (s : Session) → Apart o s.link.name → Quiets o (link_moves.flow s)
   unfolding link_moves.flow
-  q_flow s apart =
+  q_session_flow s apart =
       let named = every_named s (serve_all s) (every_serve_all s) in
       q_then o (serve_all s) _ (q_serve_all s)
       (λ none. let t = (serve_all s).state in
@@ -268,9 +270,9 @@ module _ (o : Option (List ℕ)) where
   q_moved (moves.Serve count) name s r = q_serve count s
   q_moved (moves.Send count) name s r = q_send count s
   q_moved (moves.Recv count) name s (inl none) = absurd none
-  q_moved (moves.Recv count) name s (inr apart) = q_receive count s apart
+  q_moved (moves.Recv count) name s (inr apart) = q_session count s apart
   q_moved moves.Flow name s (inl none) = absurd none
-  q_moved moves.Flow name s (inr apart) = q_flow s apart
+  q_moved moves.Flow name s (inr apart) = q_session_flow s apart
   q_moved moves.HangUp name s r = tt
   q_moved moves.Cut name s r = tt
 
@@ -326,74 +328,109 @@ module _ (o : Option (List ℕ)) where
   q_ending : (name : List ℕ) (r : ClientRefusal) → AllQuiet o (ending_lines name r)
   q_ending name r = grind arith
 
-  q_lines : (s : Seat) (c : ClientCall) (r : ClientReply) → (IsAsked c → ⊥)
-      → AllQuiet o (lines_of s c r)
-  q_lines s c r n = grind (arith, q_ending)
+  -- a client at one of its ends
+  module _ (e : LinkEnd) where
+    q_lines : (s : Seat) (c : ClientCall) (r : ClientReply) → (IsAsked c → ⊥)
+        → AllQuiet o (lines_of e s c r)
+    q_lines s c r n = grind (arith, q_ending)
 
-  pub q_turn : (c : ClientCall) (s : Seat) → (IsAsked c → ⊥) → Quiets o (turn c s)
-  unfolding turn
-  q_turn c s n =
-      let t = client_step (setup_of s) (log_of s) c in
-      q_next o (does s (with_log s t.past) []) (answers (lines_of s c t.reply) (fault_of t.reply))
-      tt (λ u. q_lines s c t.reply n)
+    q_turn : (c : ClientCall) (s : Seat) → (IsAsked c → ⊥) → Quiets o (turn c e s)
+    unfolding turn
+    q_turn c s n =
+        let t = client_step (setup_of s) (log_of s) c in
+        q_next o (does s (with_log s t.past) [])
+        (answers (lines_of e s c t.reply) (fault_of t.reply)) tt (λ u. q_lines s c t.reply n)
 
-  q_taking : (most : ℕ) (s : Seat) → Quiets o (take_out most s)
-  unfolding take_out IsUnread
-  q_taking most s =
-      let t = client_step (setup_of s) (log_of s) (call.TakeOut Main most) in
-      q_next o (turn (call.TakeOut Main most) s) (links_do (Put s.member.link (bytes_of t.reply)))
-      (q_turn (call.TakeOut Main most) s (λ n. n))
-      (λ u. q_links (Put s.member.link (bytes_of t.reply)) u (inl tt))
+    q_taking : (most : ℕ) (s : Seat) → Quiets o (take_out most e s)
+    unfolding take_out IsUnread
+    q_taking most s =
+        let t = client_step (setup_of s) (log_of s) (call.TakeOut e.wire most) in
+        q_next o (turn (call.TakeOut e.wire most) e s) (links_do (Put e.link (bytes_of t.reply)))
+        (q_turn (call.TakeOut e.wire most) s (λ n. n))
+        (λ u. q_links (Put e.link (bytes_of t.reply)) u (inl tt))
 
-  pub q_out : (count : Option ℕ) (s : Seat) → Quiets o (out count s)
-  q_out count s = grind (arith, q_if, q_taking)
+    pub q_out : (count : Option ℕ) (s : Seat) → Quiets o (out count e s)
+    q_out count s = grind (arith, q_if, q_taking)
 
-  q_got : (v : Value) (s : Seat) → Quiets o (got v s)
-  q_got v s = grind (arith, q_if, q_turn)
+    q_got : (v : Value) (s : Seat) → Quiets o (got v e s)
+    q_got v s = grind (arith, q_if, q_turn)
 
-  q_got_all : (ts : List Tree) (s : Seat) → Quiets o (got_all ts s)
-  unfolding got_all got_one
-  q_got_all [] s = tt
-  q_got_all (t ∷ ts) s =
-      q_next o (got_one t s) (got_all ts)
-      (q_next o (does s (next_read s) []) (got (value_of t)) tt (q_got (value_of t)))
-      (q_got_all ts)
+    q_got_all : (ts : List Tree) (s : Seat) → Quiets o (got_all ts e s)
+    unfolding got_all got_one
+    q_got_all [] s = tt
+    q_got_all (t ∷ ts) s =
+        q_next o (got_one t e s) (got_all ts e)
+        (q_next o (does s (next_read s) []) (got (value_of t) e) tt (q_got (value_of t)))
+        (q_got_all ts)
 
-  q_stopped : (place : Option FaultPlace) (s : Seat) → Quiets o (stop place s)
-  q_stopped None s = tt
-  q_stopped (Some place) s =
-      q_if o (has_ended s) (stays s) _ tt
-      (q_next o (does s s (line.Bad s.member.link place.number place.offset ∷ []))
-      (turn (call.End Main)) (tt, tt) (λ t. q_turn (call.End Main) t (λ n. n)))
+    q_stopped : (place : Option FaultPlace) (s : Seat) → Quiets o (stop place e s)
+    q_stopped None s = tt
+    q_stopped (Some place) s =
+        q_if o (has_ended e.wire s) (stays s) _ tt
+        (q_next o (does s s (line.Bad e.link place.number place.offset ∷ []))
+        (turn (call.End e.wire) e) (tt, tt) (λ t. q_turn (call.End e.wire) t (λ n. n)))
 
-  pub q_values : (s : Seat) → Quiets o (read_values s)
-  unfolding read_values
-  q_values s =
-      let p = parse_values s.member.reader in
-      q_next o (and_then (got_all p.items s) (rest_read p.stream)) (stop (stopped_at p.fault))
-      (q_next o (got_all p.items s) (rest_read p.stream) (q_got_all p.items s) (λ t. tt))
-      (q_stopped (stopped_at p.fault))
+    pub q_values : (s : Seat) → Quiets o (read_values e s)
+    unfolding read_values
+    q_values s =
+        let p = parse_values s.reader in
+        q_next o (and_then (got_all p.items e s) (rest_read p.stream)) (stop (stopped_at p.fault) e)
+        (q_next o (got_all p.items e s) (rest_read p.stream) (q_got_all p.items s) (λ t. tt))
+        (q_stopped (stopped_at p.fault))
 
-  pub q_hang : (s : Seat) → Quiets o (hang_up s)
-  unfolding IsUnread
-  q_hang s = grind (arith, q_if, q_links, inl)
+    pub q_hang : (s : Seat) → Quiets o (hang_up e s)
+    unfolding IsUnread
+    q_hang s = grind (arith, q_if, q_links, inl)
 
-  pub q_bytes : (n : ℕ) (s : Seat) → Apart o s.member.link → Quiets o (receive_bytes n s)
-  unfolding receive_bytes name_of_event
-  q_bytes n s apart =
-      let piece = take n (link_of s).down.bytes in
-      q_next o (links_do (Over s.member.link (moves.Recv (Some n))) s)
-      (λ t. and_then (feed piece t) (λ t. and_then (read_values t) hang_up))
-      (q_links (Over s.member.link (moves.Recv (Some n))) s (inr apart))
-      (λ t. q_next o (feed piece t) (λ t. and_then (read_values t) hang_up) tt
-      (λ u. q_next o (read_values u) hang_up (q_values u) q_hang))
+    q_bytes : (n : ℕ) (s : Seat) → Apart o e.link → Quiets o (receive_bytes n e s)
+    unfolding receive_bytes name_of_event
+    q_bytes n s apart =
+        let piece = take n (link_of e s).down.bytes in
+        q_next o (links_do (Over e.link (moves.Recv (Some n))) s)
+        (λ t. and_then (feed piece t) (λ t. and_then (read_values e t) (hang_up e)))
+        (q_links (Over e.link (moves.Recv (Some n))) s (inr apart))
+        (λ t. q_next o (feed piece t) (λ t. and_then (read_values e t) (hang_up e)) tt
+        (λ u. q_next o (read_values e u) (hang_up e) (q_values u) q_hang))
 
-  pub q_ended : (s : Seat) → Apart o s.member.link → Quiets o (receive_eof s)
-  unfolding receive_eof name_of_event
-  q_ended s apart =
-      q_next o (links_do (Over s.member.link (moves.Recv None)) s) _
-      (q_links (Over s.member.link (moves.Recv None)) s (inr apart))
-      (λ t. grind (arith, q_if, q_turn))
+    q_ended : (s : Seat) → Apart o e.link → Quiets o (receive_eof e s)
+    unfolding receive_eof name_of_event
+    q_ended s apart =
+        q_next o (links_do (Over e.link (moves.Recv None)) s) _
+        (q_links (Over e.link (moves.Recv None)) s (inr apart))
+        (λ t. grind (arith, q_if, q_turn))
+
+    q_all : (s : Seat) → Apart o e.link
+        → Quiets o (and_then (receive_bytes (length (link_of e s).down.bytes) e s) (receive_eof e))
+    q_all s apart =
+        q_next o (receive_bytes (length (link_of e s).down.bytes) e s) (receive_eof e)
+        (q_bytes (length (link_of e s).down.bytes) s apart) (λ t. q_ended t apart)
+
+    q_reading : (count : Option ℕ) (s : Seat) → Apart o e.link → Quiets o (read count e s)
+    q_reading None s apart = grind (arith, q_if, q_all)
+    q_reading (Some n) s apart = grind (arith, q_if, q_bytes)
+
+    -- the client's other link only hangs up
+    pub q_hang_main : (u : Wire) (before : Bool) (s : Seat) → Quiets o (hang_up_main u before s)
+    unfolding IsUnread
+    q_hang_main Main before s = tt
+    q_hang_main Side before s =
+        q_if o (not before && has_ended Main s) _ (stays s)
+        (q_links (Over (link_on Main s.member.name) moves.HangUp) s (inl tt)) tt
+
+    pub q_receive : (count : Option ℕ) (s : Seat) → Apart o e.link → Quiets o (receive count e s)
+    unfolding receive
+    q_receive count s apart =
+        q_next o (read count e s) (hang_up_main e.wire (has_ended Main s))
+        (q_reading count s apart) (q_hang_main e.wire (has_ended Main s))
+
+    pub q_flow : (s : Seat) → Apart o e.link → Quiets o (flow e s)
+    unfolding flow IsUnread
+    q_flow s apart =
+        q_next o (out None e s) _ (q_out None s)
+        (λ t. q_next o (links_do (Over e.link (moves.Serve None)) t) _
+        (q_links (Over e.link (moves.Serve None)) t (inl tt))
+        (λ u. q_next o (links_do (Over e.link (moves.Send None)) u) (receive None e)
+        (q_links (Over e.link (moves.Send None)) u (inl tt)) (λ v. q_receive None v apart)))
 
 q_listed : (o : Option (List ℕ)) (s : Seat) (h : Option CacheEntry)
     → AllQuiet o (listed_line s h)

@@ -1,7 +1,7 @@
 -- What the moves of a client add to its log: a call its own entry, and the others none of a call.
 use Rattle.std.proofs.Common.{◌≡◌, ℕ, List, [], ◌∷◌, ◌++◌, Bool, true, false, cond, not, Some, None}
 use Rattle.std.proofs.Common.{Option, length, take, refl, sym, ap, ◌∙◌, append_assoc, append-nil}
-use Rattle.std.proofs.Common.{subst, arith, inl}
+use Rattle.std.proofs.Common.{subst, arith}
 use Rattle.std.specs.Prelude.{◌&&◌, nat_le}
 use Rattle.resp_value.specs.Tree.{Tree}
 use Rattle.resp_value.specs.ValueTree.{value_of}
@@ -17,7 +17,7 @@ use Rattle.shared_cache.specs.declared.log.ClientReply.TheVariants.{Refused, Sen
 use Rattle.shared_cache.specs.declared.log.LogEntry.{LogEntry}
 use Rattle.shared_cache.specs.declared.log.LogEntry.TheVariants as entry
 use Rattle.shared_cache.specs.declared.log.Wire.{Wire}
-use Rattle.shared_cache.specs.declared.log.Wire.TheVariants.{Main}
+use Rattle.shared_cache.specs.declared.log.Wire.TheVariants.{Main, Side}
 use Rattle.shared_cache.specs.declared.entry.CacheEntry.{CacheEntry}
 use Rattle.shared_cache.specs.Held.{Setup, Words, held, held_for}
 use Rattle.shared_cache.specs.Log.{is_ended, is_ready, reply}
@@ -33,19 +33,17 @@ use Rattle.server_links.specs.declared.fault.WorldFault.TheVariants.{NothingTher
 use Rattle.server_links.specs.declared.link.LinkMove.TheVariants as moves
 use Rattle.server_links.specs.LinkEvent.{LinkEvent, Over}
 use Rattle.server_links.specs.Moves.{all_bytes, stopped_at}
-use Rattle.server_links.specs.Outcome.{Outcome, and_then, does, refuses, stays, within}
-use Rattle.world_run.specs.WorldState.{MemberState}
+use Rattle.server_links.specs.Outcome.{Outcome, and_then, does, refuses, stays, then_by, within}
+use Rattle.world_run.specs.WorldState.{LinkEnd, MemberState}
 use Rattle.world_run.specs.Members.{Seat, link_of, links_do, log_of, setup_of}
-use Rattle.world_run.specs.Members.{with_reader}
 use Rattle.world_run.specs.ClientMoves.{fault_of, feed, flow, got, got_all, got_one}
-use Rattle.world_run.specs.ClientMoves.{hang_up, has_ended, lines_of, next_read, out}
-use Rattle.world_run.specs.ClientMoves.{print, read_values, receive, receive_bytes}
+use Rattle.world_run.specs.ClientMoves.{hang_up, hang_up_main, has_ended, lines_of, next_read, out}
+use Rattle.world_run.specs.ClientMoves.{print, read, read_values, receive, receive_bytes}
 use Rattle.world_run.specs.ClientMoves.{receive_eof, rest_read, show, shown, stop}
 use Rattle.world_run.specs.ClientMoves.{refused_fault, take_out, turn}
 use Rattle.world_run.specs.ScheduleLog.{Called, IsUp, calls_in}
-use Rattle.world_run.proofs.Links.{IsUnread}
-use Rattle.world_run.proofs.ScheduleLogLines.{Apart, IsAsked, Quiets, q_bytes, q_ended, q_if}
-use Rattle.world_run.proofs.ScheduleLogLines.{q_links, q_out, q_then}
+use Rattle.world_run.proofs.ScheduleLogLines.{IsAsked}
+use Rattle.world_run.proofs.Turns.{IsHere}
 
 -- ---- entries of calls
 
@@ -58,8 +56,6 @@ calls_more (e ∷ xs) ys = let more = calls_more xs ys in grind (arith, more, ap
 -- the client is the same, and its log has grown by what is no call
 pub record Calm (m n : MemberState) : Type 0 where
   pub name : n.name ≡ m.name
-  pub link : n.link ≡ m.link
-  pub place : n.place ≡ m.place
   pub setup : n.state.setup ≡ m.state.setup
   pub entries : List LogEntry
   pub grows : n.state.past ≡ entries ++ m.state.past
@@ -67,21 +63,11 @@ pub record Calm (m n : MemberState) : Type 0 where
 
 pub calm_same : (m : MemberState) → Calm m m
 calm_same m =
-    record {
-      name = refl;
-      link = refl;
-      place = refl;
-      setup = refl;
-      entries = [];
-      grows = refl;
-      no_call = refl;
-    }
+    record { name = refl; setup = refl; entries = []; grows = refl; no_call = refl }
 
 pub calm_both : (m n k : MemberState) → Calm m n → Calm n k → Calm m k
 calm_both m n k a b = record {
   name = b.name ∙ a.name;
-  link = b.link ∙ a.link;
-  place = b.place ∙ a.place;
   setup = b.setup ∙ a.setup;
   entries = b.entries ++ a.entries;
   grows = b.grows ∙ ap (λ x. b.entries ++ x) a.grows
@@ -90,220 +76,260 @@ calm_both m n k a b = record {
       ∙ b.no_call;
 }
 
-abbrev pub Calms : Seat → Outcome Seat → Type 0
-Calms s m = Calm s.member m.state.member
+-- ---- what a turn adds
 
-c_then : (s : Seat) (m : Outcome Seat) (next : Seat → Outcome Seat) → Calms s m
-    → ((t : Seat) → Calms t (next t)) → Calms s (and_then m next)
-unfolding and_then
-c_then s m next a g = grind (arith, calm_both)
+-- of the logs that a call may lead to, where it adds to this one
+abbrev pub Adding : (List LogEntry → Type 0) → List LogEntry → ClientCall → Type 0
+Adding P log (call.Ask q) = P (entry.Ask q ∷ log)
+Adding P log (call.Send words) = P (entry.Send words ∷ log)
+Adding P log (call.Poll n) = P (entry.Poll n ∷ log)
+Adding P log (call.TakeOut w most) = P (entry.TakeOut w most ∷ log)
+Adding P log (call.Got w v) = P (entry.Got w v ∷ log) × P (entry.Bad w v ∷ log)
+Adding P log (call.End w) = P (entry.End w ∷ log)
 
-c_if : (s : Seat) (b : Bool) (m n : Outcome Seat) → Calms s m → Calms s n → Calms s (cond b m n)
-c_if s e m n a b = grind arith
+module _ (P : List LogEntry → Type 0) (s : Setup) (log : List LogEntry) (still : P log) where
+  unless : (b : Bool) (r : ClientRefusal) (t : ClientTurn) → P t.past
+      → P (cond b (refusing r log) t).past
+  unless true r t p = still
+  unless false r t p = p
 
-c_links : (event : LinkEvent) (s : Seat) → Calms s (links_do event s)
-unfolding links_do within
-c_links event s = calm_same s.member
+  by_polling : (o : Option Value) (n : ℕ) (ended : Bool) → P (entry.Poll n ∷ log)
+      → P (polling o n ended log).past
+  by_polling (Some v) n ended p = p
+  by_polling None n true p = still
+  by_polling None n false p = still
 
--- what a turn that is no call adds
+  by_taking : (w : Wire) (most : ℕ) (bytes : List ℕ) (full : Bool)
+      → P (entry.TakeOut w most ∷ log) → P (taking_out w most bytes full log).past
+  by_taking w most [] full p = still
+  by_taking w most (b ∷ bytes) full p = unless full _ _ p
+
+  by_getting : (r : Option ClientRefusal) (w : Wire) (v : Value) (full : Bool)
+      → P (entry.Got w v ∷ log) × P (entry.Bad w v ∷ log) → P (getting r w v full log).past
+  by_getting (Some r) w v full p = p.1
+  by_getting None w v full p = unless full _ _ p.0
+
+  by_ending : (w : Wire) (b : Bool) → P (entry.End w ∷ log)
+      → P (cond b log (entry.End w ∷ log))
+  by_ending w true p = still
+  by_ending w false p = p
+
+  pub by_turn : (c : ClientCall) → Adding P log c → P (client_step s log c).past
+  unfolding client_step
+  by_turn (call.Ask q) p =
+      unless (is_ended s.mode Main log) _ _
+      (unless (not (is_ready s.mode log)) _ _ (unless (is_log_full s log) _ _ p))
+  by_turn (call.Send words) p =
+      unless (is_ended s.mode Main log) _ _
+      (unless (not (is_ready s.mode log)) _ _
+      (unless (is_control words) _ _ (unless (is_log_full s log) _ _ p)))
+  by_turn (call.Poll n) p =
+      unless (not (is_wanted s log n)) _ _
+      (by_polling (reply s.mode log n) n (is_ended s.mode Main log) p)
+  by_turn (call.TakeOut w most) p =
+      unless (is_ended s.mode w log) _ _
+      (by_taking w most (untaken s w log) (is_log_full s log) p)
+  by_turn (call.Got w v) p =
+      unless (is_ended s.mode w log) _ _
+      (by_getting (steps.fault_of s log w v) w v (is_log_full s log) p)
+  by_turn (call.End w) p = by_ending w (is_ended s.mode w log) p
+
+-- ---- a client at one of its ends
+
+-- the client after a turn
+abbrev pub turned : ClientCall → MemberState → MemberState
+turned c m =
+    let t = client_step m.state.setup m.state.past c in
+    record m { state = record m.state { past = t.past } }
+
+-- what holds between a client and itself, and over one move after another
+module _ (R : MemberState → MemberState → Type 0) (same : (m : MemberState) → R m m)
+    (both : (m n k : MemberState) → R m n → R n k → R m k) where
+  abbrev pub Moves : Seat → Outcome Seat → Type 0
+  Moves s m = R s.member m.state.member
+
+  m_then : (s : Seat) (m : Outcome Seat) (next : Seat → Outcome Seat) → Moves s m
+      → ((t : Seat) → Moves t (next t)) → Moves s (and_then m next)
+  unfolding and_then
+  m_then s m next a g = elim m.fault as (λ f. Moves s (then_by f m (next m.state))) [
+    | Some f ↦ a
+    | None ↦ both s.member m.state.member (next m.state).state.member a (g m.state)
+  ]
+
+  m_if : (s : Seat) (b : Bool) (m n : Outcome Seat) → Moves s m → Moves s n
+      → Moves s (cond b m n)
+  m_if s true m n a b = a
+  m_if s false m n a b = b
+
+  m_links : (event : LinkEvent) (s : Seat) → Moves s (links_do event s)
+  unfolding links_do within
+  m_links event s = same s.member
+
+  pub m_hang_main : (u : Wire) (before : Bool) (s : Seat) → Moves s (hang_up_main u before s)
+  m_hang_main Main before s = same s.member
+  m_hang_main Side before s =
+      m_if s (not before && has_ended Main s) _ (stays s) (m_links _ s) (same s.member)
+
+  m_print : (ls : List Line) (s : Seat) → Moves s (print ls s)
+  unfolding print
+  m_print [] s = same s.member
+  m_print (l ∷ ls) s =
+      m_then s (does s s (l ∷ [])) (print ls) (same s.member) (m_print ls)
+
+  pub m_show : (s : Seat) → Moves s (show s)
+  unfolding show
+  m_show s = m_print (shown s) s
+
+  -- and over each turn at this end
+  module _ (e : LinkEnd)
+      (one : (c : ClientCall) (m : MemberState) → IsHere e.wire c → (IsAsked c → ⊥)
+      → R m (turned c m)) where
+    m_turn : (c : ClientCall) (s : Seat) → IsHere e.wire c → (IsAsked c → ⊥)
+        → Moves s (turn c e s)
+    unfolding turn and_then
+    m_turn c s here n = one c s.member here n
+
+    m_taking : (most : ℕ) (s : Seat) → Moves s (take_out most e s)
+    unfolding take_out
+    m_taking most s =
+        m_then s (turn (call.TakeOut e.wire most) e s) _
+        (m_turn (call.TakeOut e.wire most) s refl (λ n. n)) (λ t. m_links _ t)
+
+    pub m_out : (count : Option ℕ) (s : Seat) → Moves s (out count e s)
+    m_out None s =
+        m_if s (has_ended e.wire s) (stays s) (take_out all_bytes e s) (same s.member)
+        (m_taking all_bytes s)
+    m_out (Some n) s =
+        m_if s
+        (not (has_ended e.wire s) && nat_le n (length (untaken (setup_of s) e.wire (log_of s))))
+        (take_out n e s) (refuses s NothingThere) (m_taking n s) (same s.member)
+
+    m_got : (v : Value) (s : Seat) → Moves s (got v e s)
+    m_got v s =
+        m_if s (has_ended e.wire s) _ _ (same s.member) (m_turn (call.Got e.wire v) s refl (λ n. n))
+
+    m_got_all : (ts : List Tree) (s : Seat) → Moves s (got_all ts e s)
+    unfolding got_all got_one
+    m_got_all [] s = same s.member
+    m_got_all (t ∷ ts) s =
+        m_then s (got_one t e s) (got_all ts e)
+        (m_then s (does s (next_read s) []) (got (value_of t) e) (same s.member)
+        (m_got (value_of t)))
+        (m_got_all ts)
+
+    m_stop : (place : Option FaultPlace) (s : Seat) → Moves s (stop place e s)
+    m_stop None s = same s.member
+    m_stop (Some place) s =
+        m_if s (has_ended e.wire s) (stays s) _ (same s.member)
+        (m_then s _ (turn (call.End e.wire) e) (same s.member)
+        (λ t. m_turn (call.End e.wire) t refl (λ n. n)))
+
+    m_values : (s : Seat) → Moves s (read_values e s)
+    unfolding read_values
+    m_values s =
+        let p = parse_values s.reader in
+        m_then s (and_then (got_all p.items e s) (rest_read p.stream))
+        (stop (stopped_at p.fault) e)
+        (m_then s (got_all p.items e s) (rest_read p.stream) (m_got_all p.items s)
+        (λ t. same t.member))
+        (m_stop (stopped_at p.fault))
+
+    m_hang : (s : Seat) → Moves s (hang_up e s)
+    m_hang s = m_if s (has_ended e.wire s) _ _ (m_links _ s) (same s.member)
+
+    m_bytes : (n : ℕ) (s : Seat) → Moves s (receive_bytes n e s)
+    unfolding receive_bytes
+    m_bytes n s =
+        let piece = take n (link_of e s).down.bytes in
+        m_then s (links_do (Over e.link (moves.Recv (Some n))) s)
+        (λ t. and_then (feed piece t) (λ t. and_then (read_values e t) (hang_up e)))
+        (m_links (Over e.link (moves.Recv (Some n))) s)
+        (λ t. m_then t (feed piece t) (λ t. and_then (read_values e t) (hang_up e))
+        (same t.member) (λ u. m_then u (read_values e u) (hang_up e) (m_values u) m_hang))
+
+    m_eof : (s : Seat) → Moves s (receive_eof e s)
+    unfolding receive_eof
+    m_eof s =
+        m_then s (links_do (Over e.link (moves.Recv None)) s) _ (m_links _ s)
+        (λ t. m_if t _ (turn (call.End e.wire) e t) (stays t)
+        (m_turn (call.End e.wire) t refl (λ n. n))
+        (same t.member))
+
+    m_read : (count : Option ℕ) (s : Seat) → Moves s (read count e s)
+    m_read None s =
+        let n = length (link_of e s).down.bytes in
+        m_if s (has_ended e.wire s) (stays s) (and_then (receive_bytes n e s) (receive_eof e))
+        (same s.member)
+        (m_then s (receive_bytes n e s) (receive_eof e) (m_bytes n s) m_eof)
+    m_read (Some n) s =
+        m_if s (not (has_ended e.wire s) && nat_le n (length (link_of e s).down.bytes))
+        (receive_bytes n e s) (refuses s NothingThere) (m_bytes n s) (same s.member)
+
+    pub m_receive : (count : Option ℕ) (s : Seat) → Moves s (receive count e s)
+    unfolding receive
+    m_receive count s =
+        m_then s (read count e s) (hang_up_main e.wire (has_ended Main s)) (m_read count s)
+        (m_hang_main e.wire (has_ended Main s))
+
+    pub m_flow : (s : Seat) → Moves s (flow e s)
+    unfolding flow
+    m_flow s =
+        m_then s (out None e s) _ (m_out None s)
+        (λ t. m_then t (links_do (Over e.link (moves.Serve None)) t) _ (m_links _ t)
+        (λ u. m_then u (links_do (Over e.link (moves.Send None)) u) (receive None e)
+        (m_links _ u) (m_receive None)))
+
+-- ---- no call is made
+
 abbrev AddsNone : List LogEntry → List LogEntry → Type 0
 AddsNone log new = (es : List LogEntry) × (new ≡ es ++ log) × (calls_in es ≡ [])
 
-module _ (log : List LogEntry) where
-  adds_no : AddsNone log log
-  adds_no = ([], refl, refl)
+adds_one : (log : List LogEntry) (e : LogEntry) → calls_in (e ∷ []) ≡ []
+    → AddsNone log (e ∷ log)
+adds_one log e none = (e ∷ [], refl, none)
 
-  adds_one : (e : LogEntry) → calls_in (e ∷ []) ≡ [] → AddsNone log (e ∷ log)
-  adds_one e none = (e ∷ [], refl, none)
+adding_none : (log : List LogEntry) (c : ClientCall) → (IsAsked c → ⊥)
+    → Adding (AddsNone log) log c
+adding_none log (call.Ask q) n = absurd (n tt)
+adding_none log (call.Send words) n = absurd (n tt)
+adding_none log (call.Poll k) n = absurd (n tt)
+adding_none log (call.TakeOut w most) n = adds_one log (entry.TakeOut w most) refl
+adding_none log (call.Got w v) n =
+    (adds_one log (entry.Got w v) refl, adds_one log (entry.Bad w v) refl)
+adding_none log (call.End w) n = adds_one log (entry.End w) refl
 
-  by_if : (b : Bool) (x y : ClientTurn) → AddsNone log x.past → AddsNone log y.past
-      → AddsNone log (cond b x y).past
-  by_if true x y a b = a
-  by_if false x y a b = b
+abbrev pub Calms : Seat → Outcome Seat → Type 0
+Calms s m = Calm s.member m.state.member
 
-  by_taking : (w : Wire) (most : ℕ) (bytes : List ℕ) (full : Bool)
-      → AddsNone log (taking_out w most bytes full log).past
-  by_taking w most [] full = adds_no
-  by_taking w most (b ∷ bytes) full =
-      by_if full _ _ adds_no (adds_one (entry.TakeOut w most) refl)
+calm_turn : (e : LinkEnd) (c : ClientCall) (m : MemberState) → IsHere e.wire c
+    → (IsAsked c → ⊥) → Calm m (turned c m)
+calm_turn e c m here n =
+    let log = m.state.past in
+    let a = by_turn (AddsNone log) m.state.setup log ([], refl, refl) c
+    (adding_none log c n) in
+    record { name = refl; setup = refl; entries = a.0; grows = a.1; no_call = a.2 }
 
-  by_getting : (r : Option ClientRefusal) (w : Wire) (v : Value) (full : Bool)
-      → AddsNone log (getting r w v full log).past
-  by_getting (Some r) w v full = adds_one (entry.Bad w v) refl
-  by_getting None w v full = by_if full _ _ adds_no (adds_one (entry.Got w v) refl)
+module _ (e : LinkEnd) where
+  pub c_out : (count : Option ℕ) (s : Seat) → Calms s (out count e s)
+  c_out = m_out Calm calm_same calm_both e (calm_turn e)
 
-  by_ending : (w : Wire) (b : Bool) → AddsNone log (cond b log (entry.End w ∷ log))
-  by_ending w true = adds_no
-  by_ending w false = adds_one (entry.End w) refl
+  pub c_receive : (count : Option ℕ) (s : Seat) → Calms s (receive count e s)
+  c_receive = m_receive Calm calm_same calm_both e (calm_turn e)
 
-adds_none : (s : Setup) (log : List LogEntry) (c : ClientCall) → (IsAsked c → ⊥)
-    → AddsNone log (client_step s log c).past
-unfolding client_step
-adds_none s log (call.Ask q) n = absurd (n tt)
-adds_none s log (call.Send words) n = absurd (n tt)
-adds_none s log (call.Poll k) n = absurd (n tt)
-adds_none s log (call.TakeOut w most) n =
-    by_if log (is_ended s.mode w log) _ _ (adds_no log)
-    (by_taking log w most (untaken s w log) (is_log_full s log))
-adds_none s log (call.Got w v) n =
-    by_if log (is_ended s.mode w log) _ _ (adds_no log)
-    (by_getting log (steps.fault_of s log w v) w v (is_log_full s log))
-adds_none s log (call.End w) n = by_ending log w (is_ended s.mode w log)
-
-c_turn : (c : ClientCall) (s : Seat) → (IsAsked c → ⊥) → Calms s (turn c s)
-unfolding turn and_then
-c_turn c s n = let a = adds_none (setup_of s) (log_of s) c n in
-    record {
-      name = refl;
-      link = refl;
-      place = refl;
-      setup = refl;
-      entries = a.0;
-      grows = a.1;
-      no_call = a.2;
-    }
-
-c_taking : (most : ℕ) (s : Seat) → Calms s (take_out most s)
-unfolding take_out
-c_taking most s =
-    c_then s (turn (call.TakeOut Main most) s) _ (c_turn (call.TakeOut Main most) s (λ n. n))
-    (λ t. c_links _ t)
-
-pub c_out : (count : Option ℕ) (s : Seat) → Calms s (out count s)
-c_out None s =
-    c_if s (has_ended s) (stays s) (take_out all_bytes s) (calm_same s.member)
-    (c_taking all_bytes s)
-c_out (Some n) s =
-    c_if s (not (has_ended s) && nat_le n (length (untaken (setup_of s) Main (log_of s))))
-    (take_out n s) (refuses s NothingThere) (c_taking n s) (calm_same s.member)
-
-c_got : (v : Value) (s : Seat) → Calms s (got v s)
-c_got v s = c_if s (has_ended s) _ _ (calm_same s.member) (c_turn (call.Got Main v) s (λ n. n))
-
-c_reader : (s : Seat) (reader : _) → Calm s.member (with_reader s reader).member
-c_reader s reader =
-    record {
-      name = refl;
-      link = refl;
-      place = refl;
-      setup = refl;
-      entries = [];
-      grows = refl;
-      no_call = refl;
-    }
-
-c_got_all : (ts : List Tree) (s : Seat) → Calms s (got_all ts s)
-unfolding got_all got_one
-c_got_all [] s = calm_same s.member
-c_got_all (t ∷ ts) s =
-    c_then s (got_one t s) (got_all ts)
-    (c_then s (does s (next_read s) []) (got (value_of t)) (c_reader s _) (c_got (value_of t)))
-    (c_got_all ts)
-
-c_stop : (place : Option FaultPlace) (s : Seat) → Calms s (stop place s)
-c_stop None s = calm_same s.member
-c_stop (Some place) s =
-    c_if s (has_ended s) (stays s) _ (calm_same s.member)
-    (c_then s _ (turn (call.End Main)) (calm_same s.member)
-    (λ t. c_turn (call.End Main) t (λ n. n)))
-
-pub c_values : (s : Seat) → Calms s (read_values s)
-unfolding read_values
-c_values s =
-    let p = parse_values s.member.reader in
-    c_then s (and_then (got_all p.items s) (rest_read p.stream)) (stop (stopped_at p.fault))
-    (c_then s (got_all p.items s) (rest_read p.stream) (c_got_all p.items s)
-    (λ t. c_reader t p.stream))
-    (c_stop (stopped_at p.fault))
-
-c_hang : (s : Seat) → Calms s (hang_up s)
-c_hang s = c_if s (has_ended s) _ _ (c_links _ s) (calm_same s.member)
-
-pub c_bytes : (n : ℕ) (s : Seat) → Calms s (receive_bytes n s)
-unfolding receive_bytes
-c_bytes n s =
-    let piece = take n (link_of s).down.bytes in
-    c_then s (links_do (Over s.member.link (moves.Recv (Some n))) s)
-    (λ t. and_then (feed piece t) (λ t. and_then (read_values t) hang_up))
-    (c_links (Over s.member.link (moves.Recv (Some n))) s)
-    (λ t. c_then t (feed piece t) (λ t. and_then (read_values t) hang_up) (c_reader t _)
-    (λ u. c_then u (read_values u) hang_up (c_values u) c_hang))
-
-c_eof : (s : Seat) → Calms s (receive_eof s)
-unfolding receive_eof
-c_eof s =
-    c_then s (links_do (Over s.member.link (moves.Recv None)) s) _ (c_links _ s)
-    (λ t. c_if t _ (turn (call.End Main) t) (stays t) (c_turn (call.End Main) t (λ n. n))
-    (calm_same t.member))
-
-pub c_receive : (count : Option ℕ) (s : Seat) → Calms s (receive count s)
-c_receive None s =
-    let n = length (link_of s).down.bytes in
-    c_if s (has_ended s) (stays s) (and_then (receive_bytes n s) receive_eof)
-    (calm_same s.member) (c_then s (receive_bytes n s) receive_eof (c_bytes n s) c_eof)
-c_receive (Some n) s =
-    c_if s (not (has_ended s) && nat_le n (length (link_of s).down.bytes)) (receive_bytes n s)
-    (refuses s NothingThere) (c_bytes n s) (calm_same s.member)
-
-pub c_flow : (s : Seat) → Calms s (flow s)
-unfolding flow
-c_flow s =
-    c_then s (out None s) _ (c_out None s)
-    (λ t. c_then t (links_do (Over t.member.link (moves.Serve None)) t) _ (c_links _ t)
-    (λ u. c_then u (links_do (Over u.member.link (moves.Send None)) u) (receive None)
-    (c_links _ u) (c_receive None)))
-
-c_print : (ls : List Line) (s : Seat) → Calms s (print ls s)
-unfolding print
-c_print [] s = calm_same s.member
-c_print (l ∷ ls) s =
-    c_then s (does s s (l ∷ [])) (print ls) (calm_same s.member) (c_print ls)
+  pub c_flow : (s : Seat) → Calms s (flow e s)
+  c_flow = m_flow Calm calm_same calm_both e (calm_turn e)
 
 pub c_show : (s : Seat) → Calms s (show s)
-unfolding show
-c_show s = c_print (shown s) s
-
--- ---- what is printed by the way
-
-q_received_all : (o : Option (List ℕ)) (s : Seat) → Apart o s.member.link
-    → Quiets o (and_then (receive_bytes (length (link_of s).down.bytes) s) receive_eof)
-q_received_all o s apart =
-    let m = receive_bytes (length (link_of s).down.bytes) s in
-    q_then o m receive_eof (q_bytes o (length (link_of s).down.bytes) s apart)
-    (λ none. q_ended o m.state (subst (λ l. Apart o l)
-    (sym (c_bytes (length (link_of s).down.bytes) s).link) apart))
-
-pub q_received : (o : Option (List ℕ)) (count : Option ℕ) (s : Seat) → Apart o s.member.link
-    → Quiets o (receive count s)
-q_received o None s apart = grind (arith, q_if, q_received_all)
-q_received o (Some n) s apart = grind (arith, q_if, q_bytes)
-
-pub q_flows : (o : Option (List ℕ)) (s : Seat) → Apart o s.member.link → Quiets o (flow s)
-unfolding flow IsUnread
-q_flows o s apart =
-    let a = out None s in
-    let t = a.state in
-    let b = links_do (Over t.member.link (moves.Serve None)) t in
-    let u = b.state in
-    let c = links_do (Over u.member.link (moves.Send None)) u in
-    let v = c.state in
-    let link : v.member.link ≡ s.member.link =
-    (c_links (Over u.member.link (moves.Send None)) u).link
-    ∙ (c_links (Over t.member.link (moves.Serve None)) t).link ∙ (c_out None s).link in
-    q_then o a _ (q_out o None s)
-    (λ none. q_then o b _ (q_links o (Over t.member.link (moves.Serve None)) t (inl tt))
-    (λ none. q_then o c (receive None)
-    (q_links o (Over u.member.link (moves.Send None)) u (inl tt))
-    (λ none. q_received o None v (subst (λ l. Apart o l) (sym link) apart))))
+c_show = m_show Calm calm_same calm_both
 
 -- ---- calls
 
 -- a turn and its lines, where no fault stops them
-abbrev pub Turned : ClientCall → Seat → ClientTurn → Type 0
-Turned c s t = fault_of t.reply ≡ None
-    → Called (setup_of s) s.member.name (log_of s) t.past c (lines_of s c t.reply)
+abbrev pub Answered : ClientCall → LinkEnd → Seat → ClientTurn → Type 0
+Answered c e s t = fault_of t.reply ≡ None
+    → Called (setup_of s) s.member.name (log_of s) t.past c (lines_of e s c t.reply)
 
-module _ (s : Seat) where
+module _ (e : LinkEnd) (s : Seat) where
   abbrev F : Setup
   F = setup_of s
 
@@ -311,7 +337,7 @@ module _ (s : Seat) where
   L = log_of s
 
   stopped : (c : ClientCall) (r : ClientRefusal) (f : WorldFault) → refused_fault r ≡ Some f
-      → Turned c s (refusing r L)
+      → Answered c e s (refusing r L)
   stopped c r f is none = absurd (let no : Some f ≡ None = sym is ∙ none in cc)
 
   -- the link has ended, or the client is not ready
@@ -325,26 +351,26 @@ module _ (s : Seat) where
       → Called F s.member.name L L c (line.Down s.member.name ∷ []))
       → ((is_ended F.mode Main L ≡ false) → (is_ready F.mode L ≡ false)
       → Called F s.member.name L L c (line.NotReady s.member.name ∷ []))
-      → (lines_of s c (Refused (refusal.Down Main)) ≡ line.Down s.member.name ∷ [])
-      → (lines_of s c (Refused refusal.NotReady) ≡ line.NotReady s.member.name ∷ [])
-      → (IsUp F L → Turned c s t)
-      → Turned c s (unless_up (is_ended F.mode Main L) (is_ready F.mode L) t)
+      → (lines_of e s c (Refused (refusal.Down Main)) ≡ line.Down s.member.name ∷ [])
+      → (lines_of e s c (Refused refusal.NotReady) ≡ line.NotReady s.member.name ∷ [])
+      → (IsUp F L → Answered c e s t)
+      → Answered c e s (unless_up (is_ended F.mode Main L) (is_ready F.mode L) t)
   up_called c t down unready is_down is_unready up =
       elim (is_ended F.mode Main L) as (λ b. is_ended F.mode Main L ≡ b
-      → Turned c s (unless_up b (is_ready F.mode L) t)) [
-        | true ↦ λ e none.
-            subst (λ ls. Called F s.member.name L L c ls) (sym is_down) (down e)
+      → Answered c e s (unless_up b (is_ready F.mode L) t)) [
+        | true ↦ λ is none.
+            subst (λ ls. Called F s.member.name L L c ls) (sym is_down) (down is)
         | false ↦ λ going. elim (is_ready F.mode L) as (λ b. is_ready F.mode L ≡ b
-            → Turned c s (unless_up false b t)) [
+            → Answered c e s (unless_up false b t)) [
               | true ↦ λ ready. up (going, ready)
-              | false ↦ λ e none.
+              | false ↦ λ is none.
                   subst (λ ls. Called F s.member.name L L c ls) (sym is_unready)
-                  (unready going e)
+                  (unready going is)
             ] refl
       ] refl
 
   asked : (q : Words) (o : Option CacheEntry) → IsUp F L → held_for q (held F L) ≡ o
-      → Turned (call.Ask q) s (record {
+      → Answered (call.Ask q) e s (record {
         reply = answer_ask o (read_number F L q);
         past = entry.Ask q ∷ L;
       })
@@ -363,26 +389,26 @@ module _ (s : Seat) where
     grows = refl;
   }
 
-  pub ask_called : (q : Words) → Turned (call.Ask q) s (client_step F L (call.Ask q))
+  pub ask_called : (q : Words) → Answered (call.Ask q) e s (client_step F L (call.Ask q))
   unfolding client_step
   ask_called q =
       up_called (call.Ask q) _
-      (λ e. record {
+      (λ is. record {
         answer = line.Down s.member.name;
         printed = refl;
         by = refl;
-        says = e;
+        says = is;
         grows = refl;
       })
-      (λ going e. record {
+      (λ going is. record {
         answer = line.NotReady s.member.name;
         printed = refl;
         by = refl;
-        says = (going, e);
+        says = (going, is);
         grows = refl;
       })
       refl refl
-      (λ up. elim (is_log_full F L) as (λ b. Turned (call.Ask q) s
+      (λ up. elim (is_log_full F L) as (λ b. Answered (call.Ask q) e s
       (cond b (refusing (refusal.LogFull (length L)) L) (record {
         reply = answer_ask (held_for q (held F L)) (read_number F L q);
         past = entry.Ask q ∷ L;
@@ -391,33 +417,34 @@ module _ (s : Seat) where
         | false ↦ asked q (held_for q (held F L)) up refl
       ])
 
-  pub send_called : (words : Words) → Turned (call.Send words) s (client_step F L (call.Send words))
+  pub send_called : (words : Words)
+      → Answered (call.Send words) e s (client_step F L (call.Send words))
   unfolding client_step
   send_called words =
       up_called (call.Send words) _
-      (λ e. record {
+      (λ is. record {
         answer = line.Down s.member.name;
         printed = refl;
         by = refl;
-        says = e;
+        says = is;
         grows = refl;
       })
-      (λ going e. record {
+      (λ going is. record {
         answer = line.NotReady s.member.name;
         printed = refl;
         by = refl;
-        says = (going, e);
+        says = (going, is);
         grows = refl;
       })
       refl refl
-      (λ up. elim (is_control words) as (λ c. Turned (call.Send words) s
+      (λ up. elim (is_control words) as (λ c. Answered (call.Send words) e s
       (cond c (refusing refusal.Control L)
       (cond (is_log_full F L) (refusing (refusal.LogFull (length L)) L) (record {
         reply = Sent (command_number F L words);
         past = entry.Send words ∷ L;
       })))) [
         | true ↦ stopped (call.Send words) refusal.Control _ refl
-        | false ↦ elim (is_log_full F L) as (λ b. Turned (call.Send words) s
+        | false ↦ elim (is_log_full F L) as (λ b. Answered (call.Send words) e s
             (cond b (refusing (refusal.LogFull (length L)) L) (record {
               reply = Sent (command_number F L words);
               past = entry.Send words ∷ L;
@@ -434,33 +461,33 @@ module _ (s : Seat) where
       ])
 
   polled : (n : ℕ) (o : Option Value) (ended : Bool) → reply F.mode L n ≡ o
-      → is_ended F.mode Main L ≡ ended → Turned (call.Poll n) s (polling o n ended L)
-  polled n (Some v) ended came e none = record {
+      → is_ended F.mode Main L ≡ ended → Answered (call.Poll n) e s (polling o n ended L)
+  polled n (Some v) ended came over none = record {
     answer = _;
     printed = refl;
     by = refl;
     says = (refl, came);
     grows = refl;
   }
-  polled n None true came e none = record {
+  polled n None true came over none = record {
     answer = line.Down s.member.name;
     printed = refl;
     by = refl;
-    says = (came, e);
+    says = (came, over);
     grows = refl;
   }
-  polled n None false came e none = record {
+  polled n None false came over none = record {
     answer = line.Wait s.member.name n;
     printed = refl;
     by = refl;
-    says = (refl, came, e);
+    says = (refl, came, over);
     grows = refl;
   }
 
-  pub poll_called : (n : ℕ) → Turned (call.Poll n) s (client_step F L (call.Poll n))
+  pub poll_called : (n : ℕ) → Answered (call.Poll n) e s (client_step F L (call.Poll n))
   unfolding client_step
   poll_called n =
-      elim (is_wanted F L n) as (λ b. Turned (call.Poll n) s
+      elim (is_wanted F L n) as (λ b. Answered (call.Poll n) e s
       (cond (not b) (refusing (refusal.NoNumber n) L)
       (polling (reply F.mode L n) n (is_ended F.mode Main L) L))) [
         | true ↦ polled n (reply F.mode L n) (is_ended F.mode Main L) refl refl
@@ -468,15 +495,14 @@ module _ (s : Seat) where
       ]
 
 -- what a turn of a call comes to
-pub turn_called : (c : ClientCall) (s : Seat)
-    → Turned c s (client_step (setup_of s) (log_of s) c) → (turn c s).fault ≡ None
-    → Called (setup_of s) s.member.name (log_of s) (turn c s).state.member.state.past c
-    (turn c s).lines
+pub turn_called : (c : ClientCall) (e : LinkEnd) (s : Seat)
+    → Answered c e s (client_step (setup_of s) (log_of s) c) → (turn c e s).fault ≡ None
+    → Called (setup_of s) s.member.name (log_of s) (turn c e s).state.member.state.past c
+    (turn c e s).lines
 unfolding turn and_then
-turn_called c s f none = f none
+turn_called c e s f none = f none
 
-pub turn_link : (c : ClientCall) (s : Seat)
-    → ((turn c s).state.member.name ≡ s.member.name)
-    × ((turn c s).state.member.link ≡ s.member.link)
+pub turn_name : (c : ClientCall) (e : LinkEnd) (s : Seat)
+    → (turn c e s).state.member.name ≡ s.member.name
 unfolding turn and_then
-turn_link c s = (refl, refl)
+turn_name c e s = refl

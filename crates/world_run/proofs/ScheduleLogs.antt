@@ -8,20 +8,22 @@ use Rattle.std.proofs.lemmas.Grind.{flat_map-append}
 use Rattle.serial_model.specs.declared.history.Limits.{Limits}
 use Rattle.shared_cache.specs.declared.log.ClientCall.{ClientCall}
 use Rattle.shared_cache.specs.declared.log.ClientCall.TheVariants as call
+use Rattle.shared_cache.specs.declared.log.Wire.TheVariants.{Main}
 use Rattle.shared_cache.specs.Laws.{Every}
 use Rattle.script_text.specs.declared.event.Event.{Event}
 use Rattle.script_text.specs.declared.line.Line.{Line}
 use Rattle.script_text.specs.Valid.{IsValid}
 use Rattle.server_links.specs.Transcript.{unless_fault}
-use Rattle.world_run.specs.WorldState.{MemberState, WorldState, data_link, member_at}
-use Rattle.world_run.specs.WorldState.{start_with}
+use Rattle.world_run.specs.WorldState.{MemberState, WorldState, client_at, end_at, link_on}
+use Rattle.world_run.specs.WorldState.{member_at, start_with}
 use Rattle.world_run.specs.ScheduleLog.{AllNoted, IsNoted, LogsStand, Notes, all_noted, answer_by}
 use Rattle.world_run.specs.ScheduleLog.{answerer, answers_of, call_of, calls_in, calls_of, noted}
 use Rattle.world_run.specs.WorldTranscript.{after, heard_at, transcript}
 use Rattle.world_run.specs.WorldHistory.{said_by}
 use Rattle.world_run.specs.World.{step}
 use Rattle.world_run.proofs.ReadLogEvents.{Accounts, event_accounts}
-use Rattle.world_run.proofs.ScheduleLogEvents.{Nobody, Noting, event_notes, own_answer}
+use Rattle.world_run.proofs.ScheduleLogEvents.{NamesApart, Nobody, Noting, event_notes}
+use Rattle.world_run.proofs.ScheduleLogEvents.{own_answer}
 use Rattle.world_run.proofs.ScheduleLogMoves.{calls_more}
 use Rattle.world_run.proofs.WorldEvents.{event_comes}
 use Rattle.world_run.proofs.Worlds.{WorldStands}
@@ -158,13 +160,24 @@ got_start l log_max = record {
   apart = λ name free. refl;
 }
 
--- clients are apart by their names
-names_apart : (l : Limits) (heard : ℕ → List ℕ) (raw : List ℕ → List ℕ) (lines : List Line)
-    (w : WorldState) → WorldStands l heard raw lines w → (i j : ℕ) → i < length w.members
-    → j < length w.members
-    → (member_at w.members j).name ≡ (member_at w.members i).name → j ≡ i
-names_apart l heard raw lines w s i j li lj e =
-    s.distinct i j li lj ((s.each j lj).0.named ∙ ap data_link e ∙ sym (s.each i li).0.named)
+-- clients are apart by their names, since the links that their commands go on are
+module _ (l : Limits) (heard : ℕ → List ℕ) (raw : List ℕ → List ℕ) (lines : List Line)
+    (w : WorldState) (s : WorldStands l heard raw lines w) where
+  main_link : (k : ℕ) → k < length w.ends → (end_at w.ends k).end.wire ≡ Main → (i : ℕ)
+      → (end_at w.ends k).end.client ≡ i
+      → (end_at w.ends k).end.link ≡ link_on Main (member_at w.members i).name
+  main_link k lt wire i client =
+      (s.each k lt).0.named ∙ ap (λ u. link_on u (client_at w k).name) wire
+      ∙ ap (λ c. link_on Main (member_at w.members c).name) client
+
+  names_apart : NamesApart w
+  names_apart i j li lj same =
+      let a = s.ends i li Main tt in
+      let b = s.ends j lj Main tt in
+      let one : b.0 ≡ a.0 =
+      s.distinct a.0 b.0 a.1 b.1 (main_link b.0 b.1 b.3 j b.2 ∙ ap (link_on Main) same
+      ∙ sym (main_link a.0 a.1 a.3 i a.2)) in
+      sym b.2 ∙ ap (λ k. (end_at w.ends k).end.client) one ∙ a.2
 
 logs_after : (l : Limits) (sooner events : List Event) (before : ℕ → List ℕ)
     (raw : List ℕ → List ℕ) (lines : List Line) (v w : WorldState) → Every IsValid events
@@ -188,7 +201,7 @@ logs_after l sooner (d ∷ more) before raw lines v w valid s told got e =
     × Accounts (lines ++ (t.lines ++ unless_fault f (transcript t.state more) [])) w) [
       | Some f ↦ λ is q. absurd (let no : ⊥ = cc in no)
       | None ↦ λ is q.
-          let k = event_notes v (names_apart l before raw lines v s) d is in
+          let k = event_notes v (names_apart l before raw lines v s) s.clients d is in
           let rest = logs_after l (sooner ++ d ∷ []) more (λ i. before i ++ heard_at v i d)
           (λ n. raw n ++ said_by n d) (lines ++ t.lines) t.state w valid.1
           ((event_comes l before raw lines v s d valid.0).ends is)

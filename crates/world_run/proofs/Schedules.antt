@@ -16,38 +16,38 @@ use Rattle.tracking_laws.proofs.Exactly.{told_exactly}
 use Rattle.currency.proofs.CompleteExactly.{completes_exactly}
 use Rattle.server_links.proofs.Accounts.{Part}
 use Rattle.server_links.proofs.Events.{serves}
-use Rattle.server_links.proofs.Names.{place_is, unplaced}
-use Rattle.world_run.specs.WorldState.{WorldState, member_at, start_with}
+use Rattle.server_links.proofs.Names.{unplaced}
+use Rattle.world_run.specs.WorldState.{WorldState, client_at, end_at, member_at, start_with}
 use Rattle.world_run.specs.Members.{client_of}
 use Rattle.world_run.specs.WorldHistory.{AllServiced, HoldsCurrent, OneHistory, PartHistory}
 use Rattle.world_run.specs.WorldHistory.{Serviced, put_on, said_by, said_to, taken_bytes}
 use Rattle.world_run.specs.WorldTranscript.{after, heard, heard_at, transcript}
 use Rattle.world_run.specs.World.{step}
+use Rattle.world_run.proofs.Clients.{client_place}
 use Rattle.world_run.proofs.LinkEvents.{part_of, stands_again}
-use Rattle.world_run.proofs.Names.{link_nowhere, link_there}
+use Rattle.world_run.proofs.Names.{end_nowhere, end_there}
 use Rattle.world_run.proofs.ScheduleLogs.{logs_stand}
 use Rattle.world_run.proofs.WorldClock.{keeps_time}
 use Rattle.world_run.proofs.WorldEvents.{event_comes}
-use Rattle.world_run.proofs.Worlds.{NoneHas, WorldPart, WorldStands, meet_part}
+use Rattle.world_run.proofs.Worlds.{NoneHas, WorldPart, WorldStands, meet_part, part_member}
 
 -- ---- what a world part says
 
 put_is : (w : WorldState) (events : List Event) (said : List ℕ → List ℕ)
-    → ((at : ℕ) → at < length w.members → let m = member_at w.members at in
-    said m.link ≡ taken_bytes m)
+    → ((k : ℕ) → k < length w.ends → let e = (end_at w.ends k).end in
+    said e.link ≡ taken_bytes e.wire (client_at w k))
     → ((n : List ℕ) → NoneHas w n → said n ≡ said_to n events)
     → (n : List ℕ) → said n ≡ put_on w n events
-put_is w events said taken rest n = grind (arith, link_nowhere, link_there)
+put_is w events said taken rest n = grind (arith, end_nowhere, end_there)
 
 pub serviced : (l : Limits) (raw : List ℕ → List ℕ) (lines : List Line) (w : WorldState)
     → WorldPart l raw lines w → (at : ℕ) → at < length w.members
     → Serviced w (member_at w.members at)
 serviced l raw lines w p at lt =
     let m = member_at w.members at in
-    let k = p.each at lt in
+    let k = part_member l raw lines w p at lt in
     record {
-      named = k.named;
-      link = place_is w.links p.unique m.link m.place k.below k.placed;
+      links = client_place w.links p.unique m k;
       mode = k.mode;
       capacity = k.room;
       legal = k.legal;
@@ -62,7 +62,7 @@ pub holds_current : Currency → (l : Limits) (raw : List ℕ → List ℕ) (lin
     → HoldsCurrent w (member_at w.members at)
 holds_current law l raw lines w p at lt =
     let m = member_at w.members at in
-    let k = p.each at lt in
+    let k = part_member l raw lines w p at lt in
     law w.links.limits (client_of m) w.links.past m.state.past k.mode p.links.history.legal
     k.legal (meet_part l raw lines w p at lt)
 
@@ -107,8 +107,10 @@ stands_start l log_max = record {
     unsaid = λ name n. refl;
     unheard = λ i le. refl;
   };
-  each = λ i lt. absurd (omega (arith, lt));
-  distinct = λ i j li. absurd (omega (arith, li));
+  each = λ k lt. absurd (omega (arith, lt));
+  clients = λ k lt. absurd (omega (arith, lt));
+  ends = λ i lt. absurd (omega (arith, lt));
+  distinct = λ j k lj. absurd (omega (arith, lj));
   rest = λ n none. refl;
 }
 
@@ -154,7 +156,7 @@ whole_history law l log_max events w valid e =
           let link = at_place w.links.links at in
           subst (λ d. Serves w.links.limits (heard first at events) d
           (read_on link.name lines) w.links.past link)
-          (put_is w events s.said (λ i lt. (s.each i lt).1) s.rest link.name)
+          (put_is w events s.said (λ k lt. (s.each k lt).1) s.rest link.name)
           (serves (heard first at events) (s.said link.name) (read_on link.name lines)
           (session_at at w.links) s.links.history.legal (s.links.accounts at lt));
       unread = λ name none. s.links.unread name (unplaced name w.links none);

@@ -1,10 +1,14 @@
 -- What each event of a world adds to the history is by the clock, and so all of a schedule.
 use Rattle.std.proofs.Common.{◌≡◌, ℕ, zero, suc, List, [], ◌∷◌, Bool, true, false, cond, not}
-use Rattle.std.proofs.Common.{Option, Some, None, length, refl, sym, subst}
+use Rattle.std.proofs.Common.{Option, Some, None, ◌+◌, length, refl, sym, subst}
+use Rattle.std.specs.Option.{is_some}
 use Rattle.resp_value.specs.Spelling.{request_spelling}
 use Rattle.serial_model.specs.History.{IsLegal}
 use Rattle.shared_cache.specs.declared.log.ClientCall.TheVariants as call
 use Rattle.shared_cache.specs.declared.log.ClientMode.{ClientMode}
+use Rattle.shared_cache.specs.declared.log.Shape.{Shape}
+use Rattle.shared_cache.specs.declared.log.Shape.TheVariants.{Single, Pair}
+use Rattle.shared_cache.specs.declared.log.Wire.TheVariants.{Main, Side}
 use Rattle.shared_cache.specs.Held.{Setup}
 use Rattle.script_text.specs.declared.event.Event.{Event}
 use Rattle.script_text.specs.declared.event.Event.TheVariants.{Raw, Say, Bytes, Client, Out, Serve}
@@ -23,17 +27,19 @@ use Rattle.server_links.specs.Outcome.{Outcome, and_then, does, refuses, stays, 
 use Rattle.server_links.specs.Transcript.{unless_fault}
 use Rattle.server_links.proofs.Delivery.{Ends, ends_then}
 use Rattle.server_links.proofs.Timing.{Timely, step_timely, timely_both, timely_same}
-use Rattle.world_run.specs.WorldState.{WorldState, client_named, client_of_link, data_link}
+use Rattle.world_run.specs.WorldState.{LinkEnd, WorldState, end_at, end_of_link, link_on}
 use Rattle.world_run.specs.Members.{Seat, seat_at}
 use Rattle.world_run.specs.ClientMoves as client
 use Rattle.world_run.specs.ClientMoves.{show, turn}
 use Rattle.world_run.specs.WorldClock.{KeepsTime, clock_after}
 use Rattle.world_run.specs.WorldTranscript.{after}
-use Rattle.world_run.specs.World.{Stepped, client_does, client_step, flow_at, flow_first, flow_step}
-use Rattle.world_run.specs.World.{is_served, is_taken, join, links_step, named_does}
+use Rattle.world_run.specs.World.{Stepped, client_does, client_step, connect, end_named, flow_at}
+use Rattle.world_run.specs.World.{flow_first, flow_step, is_served, is_taken, join, links_step}
+use Rattle.world_run.specs.World.{named_does}
 use Rattle.world_run.specs.World.{not_served, out_step, raw_out, raw_step, recv_step, said_step}
 use Rattle.world_run.specs.World.{setup_by, step}
-use Rattle.world_run.proofs.Kept.{Orderly, o_flow, o_out, o_receive, o_show, o_turn}
+use Rattle.world_run.proofs.Kept.{IsOrderly, flow_orderly, out_orderly, receive_orderly}
+use Rattle.world_run.proofs.Kept.{show_orderly, turn_orderly}
 
 -- where it ends without a fault, what it added is by the clock, and the clock is this one
 InTime : ℕ → WorldState → Stepped → Type 0
@@ -68,12 +74,13 @@ time_links : (event : LinkEvent) (w : WorldState)
 unfolding InTime Ends links_step within
 time_links event w none = (step_timely event w.links).ends none
 
-time_client : (at : ℕ) (move : Seat → Outcome Seat) → ((s : Seat) → Orderly s (move s))
+time_client : (at : ℕ) (move : LinkEnd → Seat → Outcome Seat) → IsOrderly move
     → (w : WorldState) → InTime w.links.now w (client_does at move w)
 unfolding InTime Ends client_does within
-time_client at move orderly w none = ((orderly (seat_at at w)).kept.ends none).timely
+time_client at move orderly w none =
+    ((orderly (end_at w.ends at).end (seat_at at w)).kept.ends none).timely
 
-time_named : (c : Option ℕ) (move : Seat → Outcome Seat) → ((s : Seat) → Orderly s (move s))
+time_named : (c : Option ℕ) (move : LinkEnd → Seat → Outcome Seat) → IsOrderly move
     → (w : WorldState) → InTime w.links.now w (named_does c move w)
 time_named None move orderly w = time_refused w.links.now w NoName
 time_named (Some at) move orderly w = time_client at move orderly w
@@ -92,17 +99,17 @@ time_raw_out (Some at) (Some n) w = time_refused w.links.now w NothingThere
 time_out : (c : Option ℕ) (name : List ℕ) (count : Option ℕ) (w : WorldState)
     → InTime w.links.now w (out_step c name count w)
 time_out None name count w = time_raw_out (place_of name w.links) count w
-time_out (Some at) name count w = time_client at (client.out count) (o_out count) w
+time_out (Some at) name count w = time_client at (client.out count) (out_orderly count) w
 
 time_recv : (c : Option ℕ) (name : List ℕ) (count : Option ℕ) (w : WorldState)
     → InTime w.links.now w (recv_step c name count w)
 time_recv None name count w = time_links (link_event.Over name (moves.Recv count)) w
-time_recv (Some at) name count w = time_client at (client.receive count) (o_receive count) w
+time_recv (Some at) name count w = time_client at (client.receive count) (receive_orderly count) w
 
 time_flow : (c : Option ℕ) (name : List ℕ) (w : WorldState)
     → InTime w.links.now w (flow_step c name w)
 time_flow None name w = time_links (link_event.Over name moves.Flow) w
-time_flow (Some at) name w = time_client at client.flow o_flow w
+time_flow (Some at) name w = time_client at client.flow flow_orderly w
 
 time_first : (n : ℕ) (w : WorldState) → InTime w.links.now w (flow_first n w)
 unfolding flow_first
@@ -110,56 +117,71 @@ time_first zero w = time_stays w
 time_first (suc n) w =
     time_then w (flow_first n w) (flow_at n) (time_first n w)
     (λ v. let name = (at_place v.links.links n).name in
-    time_flow (client_of_link name v.members) name v)
+    time_flow (end_of_link name v.ends) name v)
 
 time_raw : (name : List ℕ) (w : WorldState) → InTime w.links.now w (raw_step name w)
 time_raw name w =
     time_if w.links.now w (is_taken name w) _ _ (time_refused w.links.now w NameTaken)
     (time_links (link_event.Raw name) w)
 
-time_join : (name : List ℕ) (place : ℕ) (setup : Setup) (w : WorldState)
-    → InTime w.links.now w (join name place setup w)
+time_join : (name : List ℕ) (main side : ℕ) (setup : Setup) (w : WorldState)
+    → InTime w.links.now w (join name main side setup w)
 unfolding InTime Ends
-time_join name place setup w none = timely_same w.links
+time_join name main side setup w none = timely_same w.links
+
+time_connect : (shape : Shape) (name : List ℕ) (setup : Setup) (w : WorldState)
+    → InTime w.links.now w (connect shape name setup w)
+time_connect Single name setup w =
+    let place = length w.links.links in
+    let link = link_on Main name in
+    time_then w (links_step (link_event.Raw link) w) (join name place place setup)
+    (time_links (link_event.Raw link) w) (time_join name place place setup)
+time_connect Pair name setup w =
+    let place = length w.links.links in
+    let side = link_on Side name in
+    let main = link_on Main name in
+    let joins = join name (place + 1) place setup in
+    time_if w.links.now w (is_some (place_of main w.links)) _ _
+    (time_refused w.links.now w NameTaken)
+    (time_then w (links_step (link_event.Raw side) w)
+    (λ v. and_then (links_step (link_event.Raw main) v) joins) (time_links (link_event.Raw side) w)
+    (λ v. time_then v (links_step (link_event.Raw main) v) joins
+    (time_links (link_event.Raw main) v) (time_join name (place + 1) place setup)))
 
 time_made : (name : List ℕ) (mode : ClientMode) (capacity : ℕ) (w : WorldState)
     → InTime w.links.now w (client_step name mode capacity w)
 unfolding InTime Ends
 time_made name mode capacity w =
+    let setup = setup_by w mode capacity in
     time_if w.links.now w (not (is_served mode)) _ _
     (time_refused w.links.now w (Refused not_served))
     (time_if w.links.now w (is_taken name w) _ _ (time_refused w.links.now w NameTaken)
-    (time_then w (does w w []) (λ w. and_then (links_step (link_event.Raw (data_link name)) w)
-    (join name (length w.links.links) (setup_by w mode capacity)))
-    (λ none. timely_same w.links)
-    (λ v. time_then v (links_step (link_event.Raw (data_link name)) v)
-    (join name (length v.links.links) (setup_by v mode capacity))
-    (time_links (link_event.Raw (data_link name)) v)
-    (λ u. time_join name (length v.links.links) (setup_by v mode capacity) u))))
+    (time_then w (does w w []) (connect mode.shape name setup) (λ none. timely_same w.links)
+    (time_connect mode.shape name setup)))
 
 event_time : (e : Event) (w : WorldState) → InTime (clock_after w.links.now e) w (step w e)
 unfolding step
 event_time (Raw name) w = time_raw name w
 event_time (Say name words) w =
-    time_said (client_of_link name w.members) name (request_spelling words) w
-event_time (Bytes name bytes) w = time_said (client_of_link name w.members) name bytes w
+    time_said (end_of_link name w.ends) name (request_spelling words) w
+event_time (Bytes name bytes) w = time_said (end_of_link name w.ends) name bytes w
 event_time (Client name mode capacity) w = time_made name mode capacity w
-event_time (Out name count) w = time_out (client_of_link name w.members) name count w
+event_time (Out name count) w = time_out (end_of_link name w.ends) name count w
 event_time (Serve name count) w = time_links (link_event.Over name (moves.Serve count)) w
 event_time (Send name count) w = time_links (link_event.Over name (moves.Send count)) w
-event_time (Recv name count) w = time_recv (client_of_link name w.members) name count w
-event_time (Flow name) w = time_flow (client_of_link name w.members) name w
+event_time (Recv name count) w = time_recv (end_of_link name w.ends) name count w
+event_time (Flow name) w = time_flow (end_of_link name w.ends) name w
 event_time FlowAll w = time_first (length w.links.links) w
 event_time (Cut name) w = time_links (link_event.Over name moves.Cut) w
 event_time (Now moment) w = time_links (link_event.Now moment) w
 event_time Tick w = time_links link_event.Tick w
 event_time (Ask name q) w =
-    time_named (client_named name w.members) (turn (call.Ask q)) (o_turn (call.Ask q)) w
+    time_named (end_named name w) (turn (call.Ask q)) (turn_orderly (call.Ask q)) w
 event_time (Do name words) w =
-    time_named (client_named name w.members) (turn (call.Send words)) (o_turn (call.Send words)) w
+    time_named (end_named name w) (turn (call.Send words)) (turn_orderly (call.Send words)) w
 event_time (Poll name n) w =
-    time_named (client_named name w.members) (turn (call.Poll n)) (o_turn (call.Poll n)) w
-event_time (Show name) w = time_named (client_named name w.members) show o_show w
+    time_named (end_named name w) (turn (call.Poll n)) (turn_orderly (call.Poll n)) w
+event_time (Show name) w = time_named (end_named name w) (λ e. show) show_orderly w
 
 -- ---- a schedule
 

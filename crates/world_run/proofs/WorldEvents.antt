@@ -24,14 +24,15 @@ use Rattle.server_links.specs.Transcript as links_heard
 use Rattle.server_links.specs.Transcript.{is_place, reads_at}
 use Rattle.server_links.proofs.LinksStand.{not_equal}
 use Rattle.server_links.proofs.Names.{placed, unplaced}
-use Rattle.world_run.specs.WorldState.{WorldState, client_named, client_of_link, member_at}
+use Rattle.world_run.specs.WorldState.{LinkEnd, WorldState, client_at, end_at, end_of_link}
+use Rattle.world_run.specs.WorldState.{place_on}
 use Rattle.world_run.specs.Members.{Seat, seat_at}
 use Rattle.world_run.specs.ClientMoves as client
 use Rattle.world_run.specs.ClientMoves.{show, turn}
 use Rattle.world_run.specs.WorldHistory.{said_by}
 use Rattle.world_run.specs.WorldTranscript.{flow_heard, heard_at}
-use Rattle.world_run.specs.World.{flow_step, links_step, named_does, out_step, raw_out, recv_step}
-use Rattle.world_run.specs.World.{said_step, step}
+use Rattle.world_run.specs.World.{end_named, flow_step, links_step, named_does, out_step, raw_out}
+use Rattle.world_run.specs.World.{recv_step, said_step, step}
 use Rattle.world_run.proofs.Clients.{ask_stands, out_stands, poll_stands, receive_stands}
 use Rattle.world_run.proofs.Clients.{send_stands, show_stands}
 use Rattle.world_run.proofs.Flowing.{flow_all_comes, flow_one, only_at}
@@ -39,8 +40,8 @@ use Rattle.world_run.proofs.Joining.{client_comes, raw_comes}
 use Rattle.world_run.proofs.LinkEvents.{Comes, comes_apart, comes_as, comes_client, comes_refused}
 use Rattle.world_run.proofs.LinkEvents.{comes_same, comes_unread}
 use Rattle.world_run.proofs.Links.{IsUnread, name_of_event}
-use Rattle.world_run.proofs.Names.{client_there, link_nowhere, link_there}
-use Rattle.world_run.proofs.Seats.{One, Seating, Steady}
+use Rattle.world_run.proofs.Names.{end_named_there, end_nowhere, end_there}
+use Rattle.world_run.proofs.Seats.{IsEnd, One, Seating, Steady}
 use Rattle.world_run.proofs.Worlds.{Holds, WorldStands}
 
 nothing : (b : Bool) → cond {A = List ℕ} b [] [] ≡ []
@@ -52,6 +53,9 @@ module _ (l : Limits) (heard : ℕ → List ℕ) (raw : List ℕ → List ℕ) (
   abbrev pub EventComes : Event → Type 0
   EventComes e =
       Comes l (λ i. heard i ++ heard_at w i e) (λ n. raw n ++ said_by n e) lines (step w e)
+
+  is_end : (at : ℕ) → at < length w.ends → IsEnd at w
+  is_end at lt = (lt, (h.clients at lt).0)
 
   no_heard : (i : ℕ) → heard i ≡ heard i ++ []
   no_heard i = sym (append-nil (heard i))
@@ -68,17 +72,17 @@ module _ (l : Limits) (heard : ℕ → List ℕ) (raw : List ℕ → List ℕ) (
 
   said_comes : (name bytes : List ℕ)
       → Comes l (λ i. heard i ++ []) (λ n. raw n ++ cond (bytes_eq name n) bytes []) lines
-      (said_step (client_of_link name w.members) name bytes w)
+      (said_step (end_of_link name w.ends) name bytes w)
   unfolding name_of_event
   said_comes name bytes =
       let says : List ℕ → List ℕ = λ n. raw n ++ cond (bytes_eq name n) bytes [] in
-      elim (client_of_link name w.members) as (λ c. client_of_link name w.members ≡ c
+      elim (end_of_link name w.ends) as (λ c. end_of_link name w.ends ≡ c
       → Comes l (λ i. heard i ++ []) says lines (said_step c name bytes w)) [
         | None ↦ λ none.
             comes_apart l heard raw lines w h says (link_event.Put name bytes)
-            (link_nowhere name w.members none) (λ n. refl)
+            (end_nowhere name w.ends none) (λ n. refl)
         | Some at ↦ λ is.
-            let there = link_there name w.members at is in
+            let there = end_there name w.ends at is in
             comes_refused l heard raw lines w h (λ i. heard i ++ []) says
             (λ n none. no_raw n ∙ ap (λ b. raw n ++ cond b bytes [])
             (sym (not_equal name n (λ e. none at there.0 (there.1 ∙ e))))) NoName
@@ -120,43 +124,44 @@ module _ (l : Limits) (heard : ℕ → List ℕ) (raw : List ℕ → List ℕ) (
       comes_refused l heard raw lines w h heard raw (λ n none. refl) NothingThere
 
   out_comes : (name : List ℕ) (count : Option ℕ)
-      → Comes l heard raw lines (out_step (client_of_link name w.members) name count w)
+      → Comes l heard raw lines (out_step (end_of_link name w.ends) name count w)
   out_comes name count =
-      elim (client_of_link name w.members) as (λ c. client_of_link name w.members ≡ c
+      elim (end_of_link name w.ends) as (λ c. end_of_link name w.ends ≡ c
       → Comes l heard raw lines (out_step c name count w)) [
         | None ↦ λ none. raw_out_comes (place_of name w.links) count
         | Some at ↦ λ is.
             comes_client l heard raw lines w h heard at (client.out count)
-            (λ k. out_stands l raw at heard count lines w k (link_there name w.members at is).0)
+            (λ k. out_stands l raw at heard count lines w k
+            (is_end at (end_there name w.ends at is).0))
       ] refl
 
   recv_comes : (name : List ℕ) (count : Option ℕ)
-      → Comes l heard raw lines (recv_step (client_of_link name w.members) name count w)
+      → Comes l heard raw lines (recv_step (end_of_link name w.ends) name count w)
   unfolding name_of_event
   recv_comes name count =
       let recv = link_event.Over name (moves.Recv count) in
-      elim (client_of_link name w.members) as (λ c. client_of_link name w.members ≡ c
+      elim (end_of_link name w.ends) as (λ c. end_of_link name w.ends ≡ c
       → Comes l heard raw lines (recv_step c name count w)) [
         | None ↦ λ none.
             comes_as l (λ i. heard i ++ links_heard.heard_at w.links i recv) heard raw raw lines
             (links_step recv w)
             (λ i. ap (λ x. heard i ++ x) (nothing (is_place (place_of name w.links) i))
             ∙ append-nil (heard i)) (λ n. refl)
-            (comes_apart l heard raw lines w h raw recv (link_nowhere name w.members none)
+            (comes_apart l heard raw lines w h raw recv (end_nowhere name w.ends none)
             (λ n. append-nil (raw n)))
         | Some at ↦ λ is.
             comes_client l heard raw lines w h heard at (client.receive count)
             (λ k. receive_stands l raw at heard count lines w k
-            (link_there name w.members at is).0)
+            (is_end at (end_there name w.ends at is).0))
       ] refl
 
   -- ---- a link flows
 
   flow_none : (name : List ℕ) → place_of name w.links ≡ None
-      → Comes l heard raw lines (flow_step (client_of_link name w.members) name w)
+      → Comes l heard raw lines (flow_step (end_of_link name w.ends) name w)
   unfolding name_of_event
   flow_none name free =
-      elim (client_of_link name w.members) as (λ c. client_of_link name w.members ≡ c
+      elim (end_of_link name w.ends) as (λ c. end_of_link name w.ends ≡ c
       → Comes l heard raw lines (flow_step c name w)) [
         | None ↦ λ none.
             let flow = link_event.Over name moves.Flow in
@@ -164,28 +169,29 @@ module _ (l : Limits) (heard : ℕ → List ℕ) (raw : List ℕ → List ℕ) (
             (links_step flow w)
             (λ i. ap (λ p. heard i ++ cond (is_place p i) (reads_at w.links i None) []) free
             ∙ append-nil (heard i)) (λ n. refl)
-            (comes_apart l heard raw lines w h raw flow (link_nowhere name w.members none)
+            (comes_apart l heard raw lines w h raw flow (end_nowhere name w.ends none)
             (λ n. append-nil (raw n)))
         | Some at ↦ λ is.
-            let there = link_there name w.members at is in
-            let part = (h.each at there.0).0 in
-            absurd (unplaced name w.links free (member_at w.members at).place part.below
-            (part.placed ∙ there.1))
+            let there = end_there name w.ends at is in
+            let p = (h.each at there.0).0 in
+            let u = (end_at w.ends at).end.wire in
+            absurd (unplaced name w.links free (place_on u (client_at w at))
+            (p.member.below u p.has) (p.member.placed u p.has ∙ sym p.named ∙ there.1))
       ] refl
 
   flow_comes : (name : List ℕ) → EventComes (Flow name)
   unfolding step
   flow_comes name = elim (place_of name w.links) as (λ p. place_of name w.links ≡ p
       → Comes l (λ i. heard i ++ cond (is_place p i) (flow_heard i w) []) (λ n. raw n ++ []) lines
-      (flow_step (client_of_link name w.members) name w)) [
+      (flow_step (end_of_link name w.ends) name w)) [
         | None ↦ λ free.
             comes_as l heard (λ i. heard i ++ []) raw (λ n. raw n ++ []) lines
-            (flow_step (client_of_link name w.members) name w) no_heard no_raw (flow_none name free)
+            (flow_step (end_of_link name w.ends) name w) no_heard no_raw (flow_none name free)
         | Some place ↦ λ is.
             let p = placed name w.links place is in
             comes_as l (only_at heard place (flow_heard place w))
             (λ i. heard i ++ cond (place == i) (flow_heard i w) []) raw (λ n. raw n ++ []) lines
-            (flow_step (client_of_link name w.members) name w)
+            (flow_step (end_of_link name w.ends) name w)
             (λ i. elim (place == i) as (λ b. (place == i) ≡ b
             → heard i ++ cond b (flow_heard place w) [] ≡ heard i ++ cond b (flow_heard i w) []) [
               | true ↦ λ e. ap (λ k. heard i ++ flow_heard k w) (eqb-true place i e)
@@ -193,23 +199,23 @@ module _ (l : Limits) (heard : ℕ → List ℕ) (raw : List ℕ → List ℕ) (
             ] refl)
             no_raw
             (subst (λ n. Comes l (only_at heard place (flow_heard place w)) raw lines
-            (flow_step (client_of_link n w.members) n w)) p.1
+            (flow_step (end_of_link n w.ends) n w)) p.1
             (flow_one l heard raw lines w h place p.0))
       ] refl
 
   -- ---- a client is asked
 
-  named_comes : (name : List ℕ) (move : Seat → Outcome Seat)
-      → ((at : ℕ) → at < length w.members → Holds l heard raw (Seating at [] Steady) lines w
+  named_comes : (name : List ℕ) (move : LinkEnd → Seat → Outcome Seat)
+      → ((at : ℕ) → IsEnd at w → Holds l heard raw (Seating at [] Steady) lines w
       → One l raw at (λ ls u. Holds l heard raw (Seating at [] Steady) ls u) lines w
-      (move (seat_at at w)))
-      → Comes l heard raw lines (named_does (client_named name w.members) move w)
+      (move (end_at w.ends at).end (seat_at at w)))
+      → Comes l heard raw lines (named_does (end_named name w) move w)
   named_comes name move f =
-      elim (client_named name w.members) as (λ c. client_named name w.members ≡ c
+      elim (end_named name w) as (λ c. end_named name w ≡ c
       → Comes l heard raw lines (named_does c move w)) [
         | None ↦ λ none. comes_refused l heard raw lines w h heard raw (λ n none. refl) NoName
         | Some at ↦ λ is. comes_client l heard raw lines w h heard at move
-            (f at (client_there name w.members at is).0)
+            (f at (is_end at (end_named_there name w at is).0))
       ] refl
 
   pub event_comes : (e : Event) → IsValid e → EventComes e
@@ -258,4 +264,4 @@ module _ (l : Limits) (heard : ℕ → List ℕ) (raw : List ℕ → List ℕ) (
       (λ at below k. poll_stands l raw at heard lines w k below n))
   event_comes (Show name) valid =
       silent (Show name) (λ i. refl) (λ n. refl)
-      (named_comes name show (λ at below k. show_stands l raw at heard lines w k below))
+      (named_comes name (λ e. show) (λ at below k. show_stands l raw at heard lines w k below))

@@ -1,4 +1,4 @@
--- What a client's log has of what its end of the link read: each whole value before an end of that
+-- What a client's log has of what its end of a link read: each whole value before an end of that
 -- link was got, and an EOF that was read is an End.
 use Rattle.std.specs.Prelude.{◌≡◌, ◌<◌, ◌||◌, ℕ, List, [], ◌∷◌, ◌++◌, Bool, true, false, length}
 use Rattle.std.specs.Prelude.{if◌then◌else◌, map}
@@ -11,7 +11,6 @@ use Rattle.resp_value.specs.declared.value.Value.{Value}
 use Rattle.resp_stream.specs.Parse.{parse_values, values_of}
 use Rattle.resp_stream.specs.Stream.{begun, fed}
 use Rattle.shared_cache.specs.declared.log.Wire.{Wire}
-use Rattle.shared_cache.specs.declared.log.Wire.TheVariants.{Main}
 use Rattle.shared_cache.specs.declared.log.LogEntry.{LogEntry}
 use Rattle.shared_cache.specs.declared.log.LogEntry.TheVariants as entry
 use Rattle.shared_cache.specs.Log.{is_wire}
@@ -19,7 +18,7 @@ use Rattle.shared_cache.specs.Laws.{gots}
 use Rattle.script_text.specs.declared.line.Line.{Line}
 use Rattle.script_text.specs.declared.line.Line.TheVariants as line
 use Rattle.server_links.specs.OneHistory.{read_on}
-use Rattle.world_run.specs.WorldState.{MemberState, WorldState, member_at}
+use Rattle.world_run.specs.WorldState.{LinkEnd, MemberState, WorldState, client_at, end_at}
 
 -- the line of an EOF that was read on this link
 abbrev pub is_eof_of : List ℕ → Line → Bool
@@ -80,12 +79,13 @@ IsGot bytes eof got Going = (got ≡ values_of bytes) × IsWell bytes × (eof �
 IsGot bytes eof got (ByValue v) = IsPrefix (got ++ tree_of v ∷ []) (values_of bytes)
 IsGot bytes eof got ByEnd = (got ≡ values_of bytes) × (IsWell bytes → eof ≡ true)
 
--- of a client, by the lines of what its end of the link read
-abbrev pub ReadIsGot : List Line → MemberState → Type 0
-ReadIsGot lines m =
-    IsGot (read_on m.link lines) (has_eof m.link lines)
-    (map tree_of (gots Main m.state.past)) (ending Main m.state.past)
+-- of a client, by the lines of what its end of a link read
+abbrev pub ReadIsGot : List Line → LinkEnd → MemberState → Type 0
+ReadIsGot lines e m =
+    IsGot (read_on e.link lines) (has_eof e.link lines)
+    (map tree_of (gots e.wire m.state.past)) (ending e.wire m.state.past)
 
 -- after a schedule that met no fault
 abbrev pub AllGot : List Line → WorldState → Type 0
-AllGot lines w = (at : ℕ) → at < length w.members → ReadIsGot lines (member_at w.members at)
+AllGot lines w =
+    (at : ℕ) → at < length w.ends → ReadIsGot lines (end_at w.ends at).end (client_at w at)

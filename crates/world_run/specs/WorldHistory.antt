@@ -1,10 +1,10 @@
 -- What the headline says of a schedule: one serial history, with each request once, and replies
 -- that are its replies; and what a client holds is what the server would answer.
-use Rattle.std.specs.Prelude.{◌≡◌, ◌<◌, ℕ, List, [], ◌∷◌, ◌++◌, true}
+use Rattle.std.specs.Prelude.{◌≡◌, ◌<◌, ℕ, List, [], ◌∷◌, ◌++◌, Bool, true, false}
 use Rattle.std.specs.Prelude.{◌≤◌, if◌then◌else◌, length, take, slice_get}
 use Rattle.std.specs.declared.option.Option.{Option}
 use Rattle.std.specs.declared.option.Option.TheVariants.{None, Some}
-use Rattle.std.specs.List.{flat_map}
+use Rattle.std.specs.List.{flat_map, list_any}
 use Rattle.std.specs.Str.{bytes_eq}
 use Rattle.resp_value.specs.Lists.{IsPrefix}
 use Rattle.resp_value.specs.Spelling.{request_spelling}
@@ -17,8 +17,10 @@ use Rattle.serial_model.specs.declared.history.Limits.{Limits}
 use Rattle.serial_model.specs.declared.history.Entry.{Entry}
 use Rattle.serial_model.specs.declared.history.Entry.TheVariants.{Run}
 use Rattle.serial_model.specs.History.{Sending, keyspace, sent}
-use Rattle.shared_cache.specs.declared.log.Wire.TheVariants.{Main}
-use Rattle.shared_cache.specs.ClientFields.{IsOneLink}
+use Rattle.shared_cache.specs.declared.log.Wire.{Wire}
+use Rattle.shared_cache.specs.declared.log.Wire.TheVariants.{Main, Side}
+use Rattle.shared_cache.specs.ClientFields.{IsClientMode}
+use Rattle.shared_cache.specs.Log.{HasWire}
 use Rattle.shared_cache.specs.Notices.{invalidates}
 use Rattle.shared_cache.specs.Held.{held, held_for}
 use Rattle.shared_cache.specs.Laws.{Every, LegalLog, gots}
@@ -40,15 +42,14 @@ use Rattle.server_links.specs.declared.fault.WorldFault.{WorldFault}
 use Rattle.server_links.specs.Faults.{IsRefusal}
 use Rattle.server_links.specs.LinksState.{at_place}
 use Rattle.server_links.specs.LinkSteps.{place_of}
-use Rattle.server_links.specs.OneHistory as links_kept
 use Rattle.server_links.specs.OneHistory.{History, PartServes, Serves, read_on}
 use Rattle.server_links.specs.Outcome.{Reached}
-use Rattle.world_run.specs.WorldState.{WorldState, client_named, client_of_link, data_link}
-use Rattle.world_run.specs.WorldState.{MemberState, member_at, start_with}
+use Rattle.world_run.specs.WorldState.{MemberState, WorldState, client_at, end_at, end_of_link}
+use Rattle.world_run.specs.WorldState.{link_on, member_at, place_on, start_with}
 use Rattle.world_run.specs.Members.{client_of}
 use Rattle.world_run.specs.ScheduleLog.{LogsStand}
 use Rattle.world_run.specs.WorldTranscript.{after, heard, transcript}
-use Rattle.world_run.specs.World.{step}
+use Rattle.world_run.specs.World.{end_named, step}
 use Rattle.world_run.specs.WorldClock.{KeepsTime}
 use Rattle.world_run.specs.WorldFlows.{FlowDelivers}
 
@@ -77,28 +78,28 @@ said_by link (Show name) = []
 abbrev pub said_to : List ℕ → List Event → List ℕ
 said_to link events = flat_map (said_by link) events
 
--- the bytes that a client took out for its link: the first of those of its commands
-abbrev pub taken_bytes : MemberState → List ℕ
-taken_bytes m =
-    take (taken_out m.state.setup Main m.state.past) (written m.state.setup Main m.state.past)
+-- the bytes that a client took out for a link: the first of those of its commands there
+abbrev pub taken_bytes : Wire → MemberState → List ℕ
+taken_bytes u m =
+    take (taken_out m.state.setup u m.state.past) (written m.state.setup u m.state.past)
 
 -- what was put on a link: what its client took out, or what the schedule said there
 abbrev pub put_by : Option ℕ → WorldState → List ℕ → List Event → List ℕ
 put_by None w link events = said_to link events
-put_by (Some at) w link events = taken_bytes (member_at w.members at)
+put_by (Some at) w link events = taken_bytes (end_at w.ends at).end.wire (client_at w at)
 
 abbrev pub put_on : WorldState → List ℕ → List Event → List ℕ
-put_on w link events = put_by (client_of_link link w.members) w link events
+put_on w link events = put_by (end_of_link link w.ends) w link events
 
 -- ---- one client
 
--- A client has one link, whose connection is its own; its log is a legal one; commands run in
+-- A client has its links, whose connections are its own; its log is a legal one; commands run in
 -- order and only those that it sent, and what it got is what it was sent, in order. It holds
 -- exactly what its log says, and is complete exactly to where something waits for it.
 pub record Serviced (w : WorldState) (m : MemberState) : Type 0 where
-  pub named : m.link ≡ data_link m.name
-  pub link : place_of m.link w.links ≡ Some m.place
-  pub mode : IsOneLink m.state.setup.mode
+  pub links : (u : Wire) → HasWire m.state.setup.mode.shape u
+      → place_of (link_on u m.name) w.links ≡ Some (place_on u m)
+  pub mode : IsClientMode m.state.setup.mode
   pub capacity : 0 < m.state.setup.capacity
   pub legal : LegalLog m.state.setup m.state.past
   pub meet : Meet w.links.limits (client_of m) w.links.past m.state.past
@@ -152,31 +153,47 @@ pub record PartHistory (l : Limits) (events : List Event) (lines : List Line)
 
 -- ---- one more event
 
--- the link that an event names, where it is an event of one link that there is; the client's link
--- where it is an event of one client
-abbrev pub link_named : Event → Option (List ℕ)
-link_named (Raw name) = None
-link_named (Say name words) = Some name
-link_named (Bytes name bytes) = Some name
-link_named (Client name mode capacity) = None
-link_named (Out name count) = Some name
-link_named (Serve name count) = Some name
-link_named (Send name count) = Some name
-link_named (Recv name count) = Some name
-link_named (Flow name) = Some name
-link_named FlowAll = None
-link_named (Cut name) = Some name
-link_named (Now moment) = None
-link_named Tick = None
-link_named (Ask name q) = Some (data_link name)
-link_named (Do name words) = Some (data_link name)
-link_named (Poll name n) = Some (data_link name)
-link_named (Show name) = Some (data_link name)
+-- the links of a client of this name
+abbrev pub links_of : List ℕ → List (List ℕ)
+links_of name = link_on Main name ∷ link_on Side name ∷ []
 
--- the links that an event doesn't name, and the clients at other links, are as they were
-pub record OthersKept (w : WorldState) (name : List ℕ) (new : WorldState) : Type 0 where
-  pub links : links_kept.OthersKept w.links name new.links
-  pub members : (at : ℕ) → ((member_at w.members at).link ≡ name → ⊥)
+-- where a client reads on one of its links, it may end the other
+abbrev pub read_by : Option ℕ → WorldState → List ℕ → List (List ℕ)
+read_by None w link = link ∷ []
+read_by (Some at) w link = links_of (client_at w at).name
+
+-- the links that an event names, where it is an event of one link or of one client
+abbrev pub links_named : WorldState → Event → Option (List (List ℕ))
+links_named w (Raw name) = None
+links_named w (Say name words) = Some (name ∷ [])
+links_named w (Bytes name bytes) = Some (name ∷ [])
+links_named w (Client name mode capacity) = None
+links_named w (Out name count) = Some (name ∷ [])
+links_named w (Serve name count) = Some (name ∷ [])
+links_named w (Send name count) = Some (name ∷ [])
+links_named w (Recv name count) = Some (read_by (end_of_link name w.ends) w name)
+links_named w (Flow name) = Some (read_by (end_of_link name w.ends) w name)
+links_named w FlowAll = None
+links_named w (Cut name) = Some (name ∷ [])
+links_named w (Now moment) = None
+links_named w Tick = None
+links_named w (Ask name q) = Some (links_of name)
+links_named w (Do name words) = Some (links_of name)
+links_named w (Poll name n) = Some (links_of name)
+links_named w (Show name) = Some (links_of name)
+
+abbrev pub is_among : List (List ℕ) → List ℕ → Bool
+is_among names name = list_any (bytes_eq name) names
+
+-- the links that an event doesn't name are as they were, and what clients have read there; and so
+-- are the clients none of whose links it names
+pub record OthersKept (w : WorldState) (names : List (List ℕ)) (new : WorldState) : Type 0 where
+  pub links : (at : ℕ) → is_among names (at_place w.links.links at).name ≡ false
+      → at_place new.links.links at ≡ at_place w.links.links at
+  pub ends : (at : ℕ) → is_among names (end_at w.ends at).end.link ≡ false
+      → end_at new.ends at ≡ end_at w.ends at
+  pub members : (at : ℕ)
+      → ((u : Wire) → is_among names (link_on u (member_at w.members at).name) ≡ false)
       → member_at new.members at ≡ member_at w.members at
 
 -- ---- answers from a cache
@@ -208,19 +225,20 @@ pub record HitAnswers (w : WorldState) (m : MemberState) (q : List (List ℕ)) (
   pub order : entry ≤ at
   pub within : at ≤ length w.links.past
   pub replies : replied (client_of m) w.links.past m.state.past (key_of q) ≤ at
-  pub invalidations : (i : ℕ) (push : Value) (s : ℕ × Sending)
-      → slice_get (gots Main m.state.past) i ≡ Some push
-      → invalidates m.state.setup.mode Main push (key_of q) ≡ true
-      → slice_get (sent w.links.limits ((client_of m).id Main) w.links.past) i ≡ Some s
+  pub invalidations : (u : Wire) → HasWire m.state.setup.mode.shape u
+      → (i : ℕ) (push : Value) (s : ℕ × Sending)
+      → slice_get (gots u m.state.past) i ≡ Some push
+      → invalidates m.state.setup.mode u push (key_of q) ≡ true
+      → slice_get (sent w.links.limits ((client_of m).id u) w.links.past) i ≡ Some s
       → s.0 < at
 
 -- the client that was asked prints the hit
 pub record IsHit (w : WorldState) (name : List ℕ) (q : List (List ℕ)) (v : Value)
     (entry at : ℕ) : Type 0 where
   pub place : ℕ
-  pub client : client_named name w.members ≡ Some place
-  pub holds : HitHolds w (member_at w.members place) q v entry at
-  pub answers : HitAnswers w (member_at w.members place) q v entry at
+  pub client : end_named name w ≡ Some place
+  pub holds : HitHolds w (client_at w place) q v entry at
+  pub answers : HitAnswers w (client_at w place) q v entry at
 
 -- an event that asks a client a query prints hits of that client and query alone, and other events
 -- print none
@@ -246,7 +264,7 @@ pub record Follows (l : Limits) (events : List Event) (lines : List Line) (w : W
   pub entries : List Entry
   pub grows : new.links.past ≡ entries ++ w.links.past
   pub hits : Every (HitStands w event) printed
-  pub others : (name : List ℕ) → link_named event ≡ Some name → OthersKept w name new
+  pub others : (names : List (List ℕ)) → links_named w event ≡ Some names → OthersKept w names new
 
 -- ---- the law
 
@@ -271,11 +289,14 @@ StaysInHistory w event lines new lines' =
     → (printed : List Line) × (lines' ≡ lines ++ printed)
     × Follows l events (transcript first events) w event printed new
 
--- each client has its link
+-- each end of a client is one of a link, and there is the link that the client's commands go on
 abbrev pub HaveLinks : WorldState → Type 0
 HaveLinks w =
-    (at : ℕ) → at < length w.members
-    → place_of (member_at w.members at).link w.links ≡ Some (member_at w.members at).place
+    (at : ℕ) → at < length w.ends →
+    let e = (end_at w.ends at).end in
+    let m = client_at w at in
+    (place_of e.link w.links ≡ Some e.place)
+    × (place_of (link_on Main m.name) w.links ≡ Some m.main)
 
 -- An event that is refused, as there is no such link or client, or it is there already, or fewer
 -- bytes are there than it moves, or the client refuses it, leaves the world as it was and prints

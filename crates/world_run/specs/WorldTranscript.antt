@@ -10,7 +10,7 @@ use Rattle.script_text.specs.declared.line.Line.{Line}
 use Rattle.server_links.specs.LinksState.{at_place}
 use Rattle.server_links.specs.LinkSteps.{place_of}
 use Rattle.server_links.specs.Transcript.{is_place, reads_at, unless_fault}
-use Rattle.world_run.specs.WorldState.{WorldState, client_of_link}
+use Rattle.world_run.specs.WorldState.{WorldState, end_of_link}
 use Rattle.world_run.specs.World.{client_does, flow_first, step}
 use Rattle.world_run.specs.ClientMoves as client
 
@@ -35,7 +35,7 @@ flowing (Some at) w = (client_does at (client.out None) w).state
 abbrev pub flow_heard : ℕ → WorldState → List ℕ
 flow_heard at w =
     reads_at
-    (flowing (client_of_link (at_place w.links.links at).name w.members) w).links at None
+    (flowing (end_of_link (at_place w.links.links at).name w.ends) w).links at None
 
 -- what the server's end of the link at this place reads at an event; where all links flow, in the
 -- world that those before it left

@@ -2,11 +2,13 @@
 ghost use Rattle.std.specs.Prelude.{◌≡◌, ◌++◌, ◌∷◌, ◌<◌, [], IfOk, OnErr, OnOk, length};
 ghost use Rattle.std.specs.Prelude.{ℕ, ◌≤◌, option_to_list};
 ghost use Rattle.std.specs.List.{slice_get};
+ghost use Rattle.resp_stream.specs.Stream.{Stream, begun};
 ghost use Rattle.shared_cache.specs.HeldKeys.{seen};
 ghost use Rattle.shared_cache.specs.Held.{held, held_in_place};
 ghost use Rattle.shared_cache.specs.declared.log.ClientCall.TheVariants as call;
 ghost use Rattle.shared_cache.specs.declared.log.ClientReply.TheVariants as reply;
 ghost use Rattle.server_links.specs.Outcome.{Gives};
+ghost use Rattle.world_run.specs.WorldState.{LinkEnd};
 ghost use Rattle.world_run.specs.ClientMoves.{ask_lines, held_lines, listed_line, poll_lines};
 ghost use Rattle.world_run.specs.ClientMoves.{refused_lines, send_lines, show, turn};
 ghost use Rattle.world_run.specs.Members.{seat};
@@ -49,7 +51,7 @@ impl Member {
         value: Value,
         number: u64,
     ) -> Result<Line, NoMemory>
-        ensures { IfOk result (λ l. l ∷ [] ≡ ask_lines (seat links.now self.now) query.now
+        ensures { IfOk result (λ l. l ∷ [] ≡ ask_lines (seat links.now self.now begun) query.now
             (reply.Hit value number)) }
     {
         let entry = self.ran_at(links, number)?;
@@ -70,8 +72,8 @@ impl Member {
         query: &Query,
         reply: ClientReply,
     ) -> Result<Option<Line>, NoMemory>
-        ensures { IfOk result (λ l. option_to_list l ≡ ask_lines (seat links.now self.now) query.now
-            reply) }
+        ensures { IfOk result (λ l. option_to_list l
+            ≡ ask_lines (seat links.now self.now begun) query.now reply) }
     {
         match reply {
             ClientReply::Hit { value, number } => {
@@ -90,8 +92,10 @@ impl Member {
         query: &Query,
         lines: &mut Lines,
     ) -> Result<(), WorldFault>
-        ensures { Gives (turn (call.Ask query.now) (seat links.now self.old)) lines.old result
-            (seat links.now self.new) lines.new }
+        ensures gives { (e : LinkEnd) (r : Stream)
+            → Gives (turn (call.Ask query.now) e (seat links.now self.old r)) lines.old result
+            (seat links.now self.new r) lines.new }
+        ensures setup { self.new.state.setup ≡ self.old.state.setup }
     {
         let asked = query.copy()?;
         let reply = self.play(ClientCall::Ask(asked))?;
@@ -103,7 +107,7 @@ impl Member {
     /// The line of the answer to another command.
     fn send_line(&self, links: &ServerLinks, reply: ClientReply) -> Result<Option<Line>, NoMemory>
         ensures { IfOk result (λ l. option_to_list l
-            ≡ send_lines (seat links.now self.now) reply) }
+            ≡ send_lines (seat links.now self.now begun) reply) }
     {
         match reply {
             ClientReply::Sent { number } => Ok(Some(Line::Sent(self.name.copy()?, number))),
@@ -120,8 +124,10 @@ impl Member {
         lines: &mut Lines,
     ) -> Result<(), WorldFault>
         requires { 0 < length words.now }
-        ensures { Gives (turn (call.Send words.now) (seat links.now self.old)) lines.old result
-            (seat links.now self.new) lines.new }
+        ensures gives { (e : LinkEnd) (r : Stream)
+            → Gives (turn (call.Send words.now) e (seat links.now self.old r)) lines.old result
+            (seat links.now self.new r) lines.new }
+        ensures setup { self.new.state.setup ≡ self.old.state.setup }
     {
         let sent = words.copy()?;
         let reply = self.play(ClientCall::Send(sent))?;
@@ -138,7 +144,7 @@ impl Member {
         reply: ClientReply,
     ) -> Result<Option<Line>, NoMemory>
         ensures { IfOk result (λ l. option_to_list l
-            ≡ poll_lines (seat links.now self.now) number reply) }
+            ≡ poll_lines (seat links.now self.now begun) number reply) }
     {
         match reply {
             ClientReply::Answer { value } => {
@@ -157,8 +163,10 @@ impl Member {
         number: u64,
         lines: &mut Lines,
     ) -> Result<(), WorldFault>
-        ensures { Gives (turn (call.Poll number) (seat links.now self.old)) lines.old result
-            (seat links.now self.new) lines.new }
+        ensures gives { (e : LinkEnd) (r : Stream)
+            → Gives (turn (call.Poll number) e (seat links.now self.old r)) lines.old result
+            (seat links.now self.new r) lines.new }
+        ensures setup { self.new.state.setup ≡ self.old.state.setup }
     {
         let reply = self.play(ClientCall::Poll(number))?;
         let line = self.poll_line(links, number, reply)?;
@@ -175,7 +183,7 @@ impl Member {
     ) -> Result<Option<Line>, NoMemory>
         requires { slice_get (seen entries.now) place
             ≡ held_in_place place (held self.now.state.setup self.now.state.past) }
-        ensures { IfOk result (λ l. option_to_list l ≡ listed_line (seat links.now self.now)
+        ensures { IfOk result (λ l. option_to_list l ≡ listed_line (seat links.now self.now begun)
             (held_in_place place (held self.now.state.setup self.now.state.past))) }
     {
         let Some(kept) = entries.get(place) else {
@@ -191,10 +199,10 @@ impl Member {
     fn put_held(&self, links: &ServerLinks, lines: &mut Lines) -> Result<(), NoMemory>
         ensures ok { OnOk result (lines.new ≡ lines.old ++ held_lines
             (length (held self.now.state.setup self.now.state.past))
-            (seat links.now self.now)) }
+            (seat links.now self.now begun)) }
         ensures err { OnErr result ((count : ℕ)
             × (count ≤ length (held self.now.state.setup self.now.state.past))
-            × (lines.new ≡ lines.old ++ held_lines count (seat links.now self.now))) }
+            × (lines.new ≡ lines.old ++ held_lines count (seat links.now self.now begun))) }
     {
         let entries = self.state.held_in_order()?;
         // no more are held than replies came
@@ -209,8 +217,8 @@ impl Member {
 
     /// What it holds, and how far it has processed what was sent to it.
     pub fn show(&self, links: &ServerLinks, lines: &mut Lines) -> Result<(), WorldFault>
-        ensures { Gives (show (seat links.now self.now)) lines.old result
-            (seat links.now self.now) lines.new }
+        ensures { (r : Stream) → Gives (show (seat links.now self.now r)) lines.old result
+            (seat links.now self.now r) lines.new }
     {
         self.put_held(links, lines)?;
         let complete = self.complete(links)?;

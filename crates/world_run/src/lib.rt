@@ -3,6 +3,7 @@
 
 mod asks;
 mod laws;
+mod link_end;
 mod living;
 mod member;
 mod moves;

@@ -1,38 +1,40 @@
-//! A client of a world, at its end of its link.
-ghost use Rattle.std.specs.Prelude.{◌≡◌, []};
-ghost use Rattle.resp_stream.specs.Stream.{begun};
-ghost use Rattle.shared_cache.specs.ClientFields.{IsOneLink};
+//! A client of a world.
+ghost use Rattle.std.specs.Prelude.{◌≡◌, [], length};
+ghost use Rattle.shared_cache.specs.declared.log.Wire.TheVariants.{Main};
+ghost use Rattle.shared_cache.specs.ClientFields.{IsClientMode};
+ghost use Rattle.shared_cache.specs.Laws.{gots};
+ghost use Rattle.world_run.specs.WorldState.{link_on, place_on};
 
-use resp_stream::ValueReader;
 use resp_value::Octets;
-use shared_cache::ClientState;
+use shared_cache::{ClientState, Shape, Wire};
 use std::alloc::Global;
 use std::marker::Model;
 
-/// Contracts see its names, the place of its link, its setup and log, and its reader.
+/// Contracts see its name, the places of its links, and its setup and log.
 #[derive(Drop)]
 pub struct Member {
     pub(crate) alloc: Global,
     pub(crate) name: Octets,
-    // the name of its link
+    // the name of the link that its commands go on
     pub(crate) link: Octets,
-    // the place of its link: the connection's id is one more
-    pub(crate) place: usize,
+    // the places of its links, of which one link has one: a connection's id is one more
+    pub(crate) main: usize,
+    pub(crate) side: usize,
+    pub(crate) shape: Shape,
     pub(crate) state: ClientState,
-    // what its end of the link has read
-    pub(crate) reader: ValueReader,
-    // how many values it got
-    pub(crate) got: usize,
+    // how many values it got on each
+    pub(crate) got_main: usize,
+    pub(crate) got_side: usize,
 }
 
 impl Model for Member {
     ghost use Rattle.std.specs.Prelude.{◌≡◌, length};
     ghost use Rattle.std.specs.Coded.{codes};
     ghost use Rattle.resp_value.specs.TreeCoding.{tree_code};
-    ghost use Rattle.shared_cache.specs.declared.log.Wire.TheVariants.{Main};
+    ghost use Rattle.shared_cache.specs.declared.log.Wire.TheVariants.{Main, Side};
     ghost use Rattle.shared_cache.specs.Laws.{gots};
-    ghost use Rattle.shared_cache.specs.ClientFields.{IsOneLink};
-    ghost use Rattle.world_run.specs.WorldState.{MemberState};
+    ghost use Rattle.shared_cache.specs.ClientFields.{IsClientMode};
+    ghost use Rattle.world_run.specs.WorldState.{MemberState, link_on};
 
     ghost Value = { MemberState };
 
@@ -40,43 +42,50 @@ impl Model for Member {
 
     ghost view = { λ m. record {
       name = m.name;
-      link = m.link;
-      place = m.place;
+      main = m.main;
+      side = m.side;
       state = m.state;
-      reader = m.reader;
     } };
 
-    ghost invariant = { λ m. IsOneLink m.state.setup.mode
-        × (m.got ≡ length (gots Main m.state.past)) };
+    ghost invariant = { λ m. IsClientMode m.state.setup.mode
+        × (m.shape ≡ m.state.setup.mode.shape)
+        × (m.got_main ≡ length (gots Main m.state.past))
+        × (m.got_side ≡ length (gots Side m.state.past))
+        × (m.link ≡ link_on Main m.name) };
 }
 
 impl Member {
-    /// A client whose log is empty.
+    /// A client whose log is empty, at the links of these places.
     pub fn new(
         alloc: Global,
         name: Octets,
         link: Octets,
-        place: usize,
+        main: usize,
+        side: usize,
+        shape: Shape,
         state: ClientState,
     ) -> Member
-        requires mode { IsOneLink state.setup.mode }
+        requires mode { IsClientMode state.setup.mode }
+        requires link { link ≡ link_on Main name }
+        requires shape { shape ≡ state.setup.mode.shape }
         requires empty { state.past ≡ [] }
         ensures { result ≡ record {
           name = name;
-          link = link;
-          place = place;
+          main = main;
+          side = side;
           state = state;
-          reader = begun;
         } }
     {
         Member {
             alloc,
             name,
             link,
-            place,
+            main,
+            side,
+            shape,
             state,
-            reader: ValueReader::new(alloc),
-            got: 0,
+            got_main: 0,
+            got_side: 0,
         }
     }
 
@@ -86,10 +95,23 @@ impl Member {
         &self.name
     }
 
-    /// The name of its link.
-    pub fn link(&self) -> &Octets
-        ensures { result.now ≡ self.now.link }
+    /// The place of a link of its.
+    pub fn place_on(&self, wire: Wire) -> usize
+        ensures { result ≡ place_on wire self.now }
     {
-        &self.link
+        match wire {
+            Wire::Main => self.main,
+            Wire::Side => self.side,
+        }
+    }
+
+    /// How many values it got on a link.
+    pub fn got_on(&self, wire: Wire) -> usize
+        ensures { result ≡ length (gots wire self.now.state.past) }
+    {
+        match wire {
+            Wire::Main => self.got_main,
+            Wire::Side => self.got_side,
+        }
     }
 }

@@ -1,7 +1,6 @@
 //! A turn of a client, and what stops its event.
 ghost use Rattle.std.specs.Prelude.{◌≡◌, IfOk, OnErr};
 ghost use Rattle.shared_cache.specs.Laws.{IsCall};
-ghost use Rattle.shared_cache.specs.declared.log.ClientMode.{ClientMode};
 ghost use Rattle.shared_cache.specs.Steps.{MayRunOut, client_step};
 ghost use Rattle.world_run.specs.ClientMoves.{fault_of, refused_fault};
 ghost use Rattle.world_run.specs.MemberTurns.{IsNoValue, TurnGives};
@@ -54,7 +53,7 @@ pub fn fault_of(reply: &ClientReply) -> Option<WorldFault>
 impl Member {
     /// A turn in which no value is got.
     pub fn play(&mut self, call: ClientCall) -> Result<ClientReply, WorldFault>
-        requires call { (m : ClientMode) → IsCall m call }
+        requires call { IsCall self.old.state.setup.mode call }
         requires no_value { IsNoValue call }
         ensures { TurnGives call self.old result self.new }
     {

@@ -1,7 +1,8 @@
 //! Where in the history a client's answers stand: counted, where the definitions look at all of it.
 ghost use Rattle.std.specs.Prelude.{◌≡◌, IfOk, Ok, max};
 ghost use Rattle.command_words.specs.Words.{reading};
-ghost use Rattle.currency.specs.Points.{names_key, reads_key, replied};
+ghost use Rattle.resp_stream.specs.Stream.{begun};
+ghost use Rattle.currency.specs.Points.{complete_on, names_key, reads_key, replied};
 ghost use Rattle.world_run.specs.ClientMoves.{complete_at, ran_at};
 ghost use Rattle.world_run.specs.Members.{client_of, seat};
 
@@ -9,6 +10,7 @@ use super::member::Member;
 use command_words::{Command, WordFault, Written, keys_read, read_command, written_by};
 use resp_value::{NoMemory, Words};
 use server_links::ServerLinks;
+use shared_cache::{Shape, Wire};
 use std::alloc::Global;
 
 fn is_read(alloc: Global, command: &Command, key: &[u8]) -> Result<bool, NoMemory>
@@ -41,22 +43,34 @@ fn names_key(alloc: Global, words: &Words, key: &[u8]) -> Result<bool, NoMemory>
 impl Member {
     /// The entry that ran its command of that number, the first of which is 1; 0 before it ran.
     pub fn ran_at(&self, links: &ServerLinks, number: u64) -> Result<u64, NoMemory>
-        ensures { IfOk result (λ n. n ≡ ran_at (seat links.now self.now) number) }
+        ensures { IfOk result (λ n. n ≡ ran_at (seat links.now self.now begun) number) }
     {
-        let entry = links.run_entry(self.place, number.saturating_sub(1) as usize)?;
+        let entry = links.run_entry(self.main, number.saturating_sub(1) as usize)?;
         Ok(entry.unwrap_or(0))
+    }
+
+    /// How many entries of the history sent it nothing on this link that it has not processed yet.
+    fn complete_on(&self, wire: Wire, links: &ServerLinks) -> Result<u64, NoMemory>
+        ensures { IfOk result (λ c. c ≡ complete_on links.now.limits (client_of self.now) wire
+            links.now.past self.now.state.past) }
+    {
+        if self.state.has_ended_on(wire) {
+            return Ok(links.entries());
+        }
+        match links.sent_entry(self.place_on(wire), self.got_on(wire))? {
+            Some(entry) => Ok(entry.saturating_sub(1)),
+            None => Ok(links.entries()),
+        }
     }
 
     /// How many entries of the history sent it nothing that it has not processed yet.
     pub fn complete(&self, links: &ServerLinks) -> Result<u64, NoMemory>
-        ensures { IfOk result (λ c. c ≡ complete_at (seat links.now self.now)) }
+        ensures { IfOk result (λ c. c ≡ complete_at (seat links.now self.now begun)) }
     {
-        if self.state.has_ended() {
-            return Ok(links.entries());
-        }
-        match links.sent_entry(self.place, self.got)? {
-            Some(entry) => Ok(entry.saturating_sub(1)),
-            None => Ok(links.entries()),
+        let main = self.complete_on(Wire::Main, links)?;
+        match self.shape {
+            Shape::Single => Ok(main),
+            Shape::Pair => Ok(main.min(self.complete_on(Wire::Side, links)?)),
         }
     }
 
@@ -70,13 +84,13 @@ impl Member {
         let mut left = self.state.replied() as usize;
         'replies: while left > 0 {
             left -= 1;
-            let Some(entry) = links.run_entry(self.place, left)? else {
+            let Some(entry) = links.run_entry(self.main, left)? else {
                 continue;
             };
             if entry <= least {
                 return Ok(least);
             }
-            let Some(words) = links.run_words(self.place, left)? else {
+            let Some(words) = links.run_words(self.main, left)? else {
                 continue;
             };
             if names_key(self.alloc, words, key)? {

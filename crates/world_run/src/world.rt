@@ -1,18 +1,22 @@
 //! The world of a schedule: a server, the links to it, and the clients at their other ends.
-ghost use Rattle.std.specs.Prelude.{◌≡◌, ◌+◌, ◌^◌, ◌<◌, ◌≤◌, ℕ, IfOk, false, length, true};
+ghost use Rattle.std.specs.Prelude.{◌≡◌, ◌+◌, ◌^◌, ◌<◌, ◌≤◌, ℕ, IfOk, [], false, length, true};
 ghost use Rattle.script_text.specs.declared.event.Event.TheVariants as event;
 ghost use Rattle.script_text.specs.Valid.{IsValid};
 ghost use Rattle.serial_model.specs.Steps.{AreValid};
+ghost use Rattle.shared_cache.specs.ClientFields.{IsClientMode};
+ghost use Rattle.shared_cache.specs.declared.log.Shape.TheVariants.{Pair, Single};
 ghost use Rattle.server_links.specs.LinkEvent.{Over};
 ghost use Rattle.server_links.specs.LinksState.{AreApart, names};
 ghost use Rattle.server_links.specs.Outcome.{Gives};
-ghost use Rattle.world_run.specs.World.{StepGives, flow_at, is_served, is_taken};
-ghost use Rattle.world_run.specs.World.{links_step, setup_by};
+ghost use Rattle.world_run.specs.World.{StepGives, client_does, end_named, flow_at, is_served};
+ghost use Rattle.world_run.specs.World.{is_taken, links_step, making, setup_by};
 ghost use Rattle.world_run.specs.WorldHistory.{StaysInHistory};
-ghost use Rattle.world_run.specs.WorldState.{IsOver, client_named, client_of_link, data_link};
-ghost use Rattle.world_run.specs.WorldState.{fresh_member, start, start_with};
+ghost use Rattle.world_run.specs.ClientMoves as client;
+ghost use Rattle.world_run.specs.WorldState.{IsOver, client_named, end_of_link, fresh_member};
+ghost use Rattle.world_run.specs.WorldState.{member_at, start, start_with};
 
 use super::laws::law_one_history;
+use super::link_end::{ClientEnd, link_on};
 use super::living::Living;
 use super::member::Member;
 use command_words::Query;
@@ -20,7 +24,7 @@ use resp_value::{NoMemory, Octets, Proto, Words, put_request};
 use script_text::{Event, Lines};
 use server_book::Limits;
 use server_links::{LinkMove, ServerLinks, WorldFault};
-use shared_cache::{Caching, ClientMode, ClientState, Shape};
+use shared_cache::{Caching, ClientMode, ClientState, Shape, Wire};
 use std::alloc::Global;
 use std::marker::Model;
 
@@ -30,6 +34,8 @@ pub struct World {
     alloc: Global,
     links: ServerLinks,
     members: Vec<Member>,
+    /// The clients' ends of their links.
+    ends: Vec<ClientEnd>,
     living: Living,
     /// How many entries the log of each client may have.
     log_max: u64,
@@ -40,7 +46,7 @@ impl Model for World {
     ghost use Rattle.std.specs.Coded.{codes};
     ghost use Rattle.resp_value.specs.TreeCoding.{tree_code};
     ghost use Rattle.world_run.specs.Members.{world};
-    ghost use Rattle.world_run.specs.WorldState.{AreOver, WorldState};
+    ghost use Rattle.world_run.specs.WorldState.{AreOver, HaveClients, WorldState};
 
     ghost Value = { WorldState };
 
@@ -49,10 +55,12 @@ impl Model for World {
     ghost view = { λ w. record {
       links = w.links;
       members = w.members.items;
+      ends = w.ends.items;
       log_max = w.log_max;
     } };
 
-    ghost invariant = { λ w. AreOver w.living (world w.log_max w.links w.members.items)
+    ghost invariant = { λ w. AreOver w.living (world w.log_max w.links w.members.items w.ends.items)
+        × HaveClients (world w.log_max w.links w.members.items w.ends.items)
         × (0 < w.log_max) };
 }
 
@@ -75,6 +83,7 @@ impl World {
             alloc,
             links: ServerLinks::new(alloc, limits)?,
             members: Vec::new(alloc),
+            ends: Vec::new(alloc),
             living: Living::new(alloc),
             log_max,
         })
@@ -128,14 +137,34 @@ impl World {
             .position(|member| member.name().as_slice() == name)
     }
 
-    // A look at each client.
-    fn client_of_link(&self, link: &Octets) -> Option<usize>
-        ensures { result ≡ client_of_link link.now self.now.members }
+    // A look at each end.
+    fn end_of_link(&self, link: &Octets) -> Option<usize>
+        ensures { result ≡ end_of_link link.now self.now.ends }
     {
         let link = link.as_slice();
-        self.members
+        self.ends
             .iter()
-            .position(|member| member.link().as_slice() == link)
+            .position(|end| end.link().as_slice() == link)
+    }
+
+    // A look at each end.
+    fn end_named(&self, name: &Octets) -> Option<usize>
+        ensures { result ≡ end_named name.now self.now }
+    {
+        let name = name.as_slice();
+        self.ends
+            .iter()
+            .position(|end| end.is_main() && self.client_name(end) == name)
+    }
+
+    // The name of an end's client; there is one.
+    fn client_name(&self, end: &ClientEnd) -> &[u8]
+        ensures { result.now ≡ (member_at self.now.members end.now.end.client).name }
+    {
+        match self.members.get(end.end.client) {
+            Some(member) => member.name().as_slice(),
+            None => &[],
+        }
     }
 
     // One name is one link's or one client's.
@@ -173,7 +202,7 @@ impl World {
         ensures { StepGives self.old (event.Say name.now words.now) lines.old result self.new
             lines.new }
     {
-        if self.client_of_link(name).is_some() {
+        if self.end_of_link(name).is_some() {
             return Err(WorldFault::NoName);
         }
         if self.links.place_of(name).is_none() {
@@ -189,13 +218,13 @@ impl World {
         ensures { StepGives self.old (event.Bytes name.now bytes.now) lines.old result self.new
             lines.new }
     {
-        if self.client_of_link(name).is_some() {
+        if self.end_of_link(name).is_some() {
             return Err(WorldFault::NoName);
         }
         self.links.put(name, bytes, lines)
     }
 
-    /// Makes a client and its link, which the server admits.
+    /// Makes a client and its links, which the server admits.
     fn client(
         &mut self,
         name: &Octets,
@@ -213,34 +242,101 @@ impl World {
         if self.is_taken(name) {
             return Err(WorldFault::NameTaken);
         }
-        // the client comes last: each way out lets go of all that is there
-        let member = self.fresh_member(name, mode, capacity)?;
-        self.members.reserve(1)?;
-        let at = self.links.count();
-        self.links.raw(member.link(), lines)?;
-        self.links.keep_words(at);
-        self.members.push_reserved(member);
-        Ok(())
+        match mode.shape {
+            Shape::Single => self.connect_one(name, mode, capacity, lines),
+            Shape::Pair => self.connect_two(name, mode, capacity, lines),
+        }
     }
 
-    // A client whose log is empty, at the place of the next link.
-    fn fresh_member(
-        &self,
+    // Its one link is made, once there is room for the client.
+    fn connect_one(
+        &mut self,
         name: &Octets,
         mode: &ClientMode,
         capacity: u64,
-    ) -> Result<Member, NoMemory>
-        requires mode { is_served mode.now ≡ true }
+        lines: &mut Lines,
+    ) -> Result<(), WorldFault>
+        requires mode { IsClientMode mode.now }
+        requires shape { mode.now.shape ≡ Single }
         requires capacity { (0 < capacity) × (capacity ≤ 1000000) }
-        ensures { IfOk result (λ m. m ≡ fresh_member name.now (length self.now.links.links)
-            (setup_by self.now mode.now capacity)) }
+        ensures { Gives (making Single name.now (setup_by self.old mode.now capacity) self.old)
+            lines.old result self.new lines.new }
     {
-        let link = data_link(self.alloc, name)?;
-        let called = name.copy()?;
-        let state = ClientState::new(self.alloc, copy_mode(mode)?, capacity, self.log_max)?;
+        self.members.reserve(1)?;
+        self.ends.reserve(1)?;
         let place = self.links.count();
-        let member = Member::new(self.alloc, called, link, place, state);
-        Ok(member)
+        let main = ClientEnd::new(self.alloc, self.members.len(), Wire::Main, name, place)?;
+        let member = fresh_member(self.alloc, name, mode, capacity, self.log_max, place, place)?;
+        let made = self.links.raw(main.link(), lines);
+        if made.is_err() {
+            drop(member);
+            drop(main);
+            return made;
+        }
+        self.links.keep_words(place);
+        self.members.push_reserved(member);
+        self.ends.push_reserved(main);
+        Ok(())
+    }
+
+    // Its two links are made, the one for invalidations first.
+    fn connect_two(
+        &mut self,
+        name: &Octets,
+        mode: &ClientMode,
+        capacity: u64,
+        lines: &mut Lines,
+    ) -> Result<(), WorldFault>
+        requires mode { IsClientMode mode.now }
+        requires shape { mode.now.shape ≡ Pair }
+        requires capacity { (0 < capacity) × (capacity ≤ 1000000) }
+        ensures { Gives (making Pair name.now (setup_by self.old mode.now capacity) self.old)
+            lines.old result self.new lines.new }
+    {
+        self.members.reserve(1)?;
+        self.ends.reserve(2)?;
+        let first = self.links.count();
+        // there are never so many
+        let Some(second) = first.checked_add(1) else {
+            return Err(WorldFault::NoMemory);
+        };
+        let client = self.members.len();
+        let side = ClientEnd::new(self.alloc, client, Wire::Side, name, first)?;
+        let main = ClientEnd::new(self.alloc, client, Wire::Main, name, second)?;
+        let member = fresh_member(
+            self.alloc,
+            name,
+            mode,
+            capacity,
+            self.log_max,
+            second,
+            first,
+        )?;
+        if self.links.place_of(main.link()).is_some() {
+            drop(member);
+            drop(side);
+            drop(main);
+            return Err(WorldFault::NameTaken);
+        }
+        let made = self.links.raw(side.link(), lines);
+        if made.is_err() {
+            drop(member);
+            drop(side);
+            drop(main);
+            return made;
+        }
+        let other = self.links.raw(main.link(), lines);
+        if other.is_err() {
+            drop(member);
+            drop(side);
+            drop(main);
+            return other;
+        }
+        self.links.keep_words(second);
+        self.members.push_reserved(member);
+        self.ends.push_reserved(side);
+        self.ends.push_reserved(main);
+        Ok(())
     }
 
     /// The client's end of a link puts what it has to send onto the way up.
@@ -253,8 +349,12 @@ impl World {
         ensures { StepGives self.old (event.Out name.now count) lines.old result self.new
             lines.new }
     {
-        match self.client_of_link(name) {
-            Some(at) => self.members[at].out(&mut self.links, count, lines),
+        match self.end_of_link(name) {
+            Some(at) => {
+                let ClientEnd { end, .. } = &self.ends[at];
+                let member = &mut self.members[end.client];
+                end.out(count, &mut self.links, member, lines)
+            }
             None if self.links.place_of(name).is_none() => Err(WorldFault::NoName),
             None => match count {
                 None => Ok(()),
@@ -273,8 +373,12 @@ impl World {
         ensures { StepGives self.old (event.Recv name.now count) lines.old result self.new
             lines.new }
     {
-        match self.client_of_link(name) {
-            Some(at) => self.members[at].receive(&mut self.links, count, lines),
+        match self.end_of_link(name) {
+            Some(at) => {
+                let ClientEnd { end, reader } = &mut self.ends[at];
+                let member = &mut self.members[end.client];
+                end.receive(count, &mut self.links, member, reader, lines)
+            }
             None => self.links.play(name, LinkMove::Recv(count), lines),
         }
     }
@@ -283,8 +387,8 @@ impl World {
     fn flow(&mut self, name: &Octets, lines: &mut Lines) -> Result<(), WorldFault>
         ensures { StepGives self.old (event.Flow name.now) lines.old result self.new lines.new }
     {
-        match self.client_of_link(name) {
-            Some(at) => self.members[at].flow(&mut self.links, lines),
+        match self.end_of_link(name) {
+            Some(at) => self.flow_end(at, lines),
             None => self.links.play(name, LinkMove::Flow, lines),
         }
     }
@@ -351,7 +455,7 @@ impl World {
         if !self.links.is_over(at) {
             return false;
         }
-        self.client_of_link(self.links.name_at(at)).is_none()
+        self.end_of_link(self.links.name_at(at)).is_none()
     }
 
     /// All that is there moves over the link at this place.
@@ -360,20 +464,33 @@ impl World {
         ensures gives { Gives (flow_at at self.old) lines.old result self.new lines.new }
         ensures count { length self.new.links.links ≡ length self.old.links.links }
     {
-        match self.client_of_link(self.links.name_at(at)) {
-            Some(client) => self.members[client].flow(&mut self.links, lines),
+        match self.end_of_link(self.links.name_at(at)) {
+            Some(end) => self.flow_end(end, lines),
             None => self.links.play_at(at, LinkMove::Flow, lines),
         }
+    }
+
+    // All that is there moves over the link of the client's end at this place.
+    fn flow_end(&mut self, at: usize, lines: &mut Lines) -> Result<(), WorldFault>
+        requires { at < length self.old.ends }
+        ensures gives { Gives (client_does at client.flow self.old) lines.old result self.new
+            lines.new }
+        ensures count { length self.new.links.links ≡ length self.old.links.links }
+    {
+        let ClientEnd { end, reader } = &mut self.ends[at];
+        let member = &mut self.members[end.client];
+        end.flow(&mut self.links, member, reader, lines)
     }
 
     fn ask(&mut self, name: &Octets, query: &Query, lines: &mut Lines) -> Result<(), WorldFault>
         ensures { StepGives self.old (event.Ask name.now query.now) lines.old result self.new
             lines.new }
     {
-        let Some(at) = self.client_named(name) else {
+        let Some(at) = self.end_named(name) else {
             return Err(WorldFault::NoName);
         };
-        self.members[at].ask(&self.links, query, lines)
+        let client = self.ends[at].client();
+        self.members[client].ask(&self.links, query, lines)
     }
 
     fn send(&mut self, name: &Octets, words: &Words, lines: &mut Lines) -> Result<(), WorldFault>
@@ -381,37 +498,66 @@ impl World {
         ensures { StepGives self.old (event.Do name.now words.now) lines.old result self.new
             lines.new }
     {
-        let Some(at) = self.client_named(name) else {
+        let Some(at) = self.end_named(name) else {
             return Err(WorldFault::NoName);
         };
-        self.members[at].send(&self.links, words, lines)
+        let client = self.ends[at].client();
+        self.members[client].send(&self.links, words, lines)
     }
 
     fn poll(&mut self, name: &Octets, number: u64, lines: &mut Lines) -> Result<(), WorldFault>
         ensures { StepGives self.old (event.Poll name.now number) lines.old result self.new
             lines.new }
     {
-        let Some(at) = self.client_named(name) else {
+        let Some(at) = self.end_named(name) else {
             return Err(WorldFault::NoName);
         };
-        self.members[at].poll(&self.links, number, lines)
+        let client = self.ends[at].client();
+        self.members[client].poll(&self.links, number, lines)
     }
 
     fn show(&mut self, name: &Octets, lines: &mut Lines) -> Result<(), WorldFault>
         ensures { StepGives self.old (event.Show name.now) lines.old result self.new lines.new }
     {
-        let Some(at) = self.client_named(name) else {
+        let Some(at) = self.end_named(name) else {
             return Err(WorldFault::NoName);
         };
-        self.members[at].show(&self.links, lines)
+        let client = self.ends[at].client();
+        self.members[client].show(&self.links, lines)
     }
 }
 
-/// The modes that are served: one link, of the third protocol.
+/// The modes that are served: one link is of the third protocol.
 fn is_served(mode: &ClientMode) -> bool
     ensures { result ≡ is_served mode.now }
 {
-    matches!((mode.shape, mode.proto), (Shape::Single, Proto::Three))
+    !matches!((mode.shape, mode.proto), (Shape::Single, Proto::Two))
+}
+
+// A client whose log is empty, at the links of these places.
+fn fresh_member(
+    alloc: Global,
+    name: &Octets,
+    mode: &ClientMode,
+    capacity: u64,
+    log_max: u64,
+    main: usize,
+    side: usize,
+) -> Result<Member, NoMemory>
+    requires mode { IsClientMode mode.now }
+    requires capacity { (0 < capacity) × (capacity ≤ 1000000) }
+    requires log_max { 0 < log_max }
+    ensures { IfOk result (λ m. m ≡ fresh_member name.now main side (record {
+      mode = mode.now;
+      capacity = capacity;
+      log_max = log_max;
+    })) }
+{
+    let link = link_on(alloc, Wire::Main, name)?;
+    let called = name.copy()?;
+    let shape = mode.shape;
+    let state = ClientState::new(alloc, copy_mode(mode)?, capacity, log_max)?;
+    Ok(Member::new(alloc, called, link, main, side, shape, state))
 }
 
 fn copy_mode(mode: &ClientMode) -> Result<ClientMode, NoMemory>
@@ -434,14 +580,4 @@ fn copy_caching(caching: &Caching) -> Result<Caching, NoMemory>
         Caching::OptOut => Ok(Caching::OptOut),
         Caching::Bcast(prefixes) => Ok(Caching::Bcast(prefixes.copy()?)),
     }
-}
-
-/// The name of a client's link.
-fn data_link(alloc: Global, name: &Octets) -> Result<Octets, NoMemory>
-    ensures { IfOk result (λ l. l ≡ data_link name.now) }
-{
-    let mut link = Vec::new(alloc);
-    link.extend_from_slice(name.as_slice())?;
-    link.extend_from_slice(b".data")?;
-    Octets::from_slice(alloc, link.as_slice())
 }

@@ -158,8 +158,6 @@ show x
 client x single 3 optin 9;flow;do x CLIENT CACHING YES
 client x single 3 optin 9;flow;do x QUIT
 client x single 3 optin 9;flow;ask x GET k;poll x 3
-client x pair 3 optin 9
-client x pair 2 default 9
 client x single 3 optout 9;client x single 3 optin 9
 client x single 3 default 9;say x GET a
 client x single 3 default 9;flow x

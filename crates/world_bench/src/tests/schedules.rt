@@ -436,11 +436,7 @@ const REFUSED: &str = "\
 #1 admit r 1
 
 3 raw r;serve r 1
-#1 admit r 1
-
-5 client x pair 3 default 1
-
-5 client x pair 2 optin 1";
+#1 admit r 1";
 
 #[test]
 fn an_event_that_is_refused_prints_nothing(rt: HostRuntime) -> Result<(), Fail> {

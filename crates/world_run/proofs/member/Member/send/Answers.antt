@@ -1,43 +1,47 @@
-use Rattle.std.proofs.Common.{◌++◌, Ok, refl, ap, subst, ◌∙◌, arith}
+use Rattle.std.proofs.Common.{◌++◌, Ok, Err, refl, ap, subst, ◌∙◌, arith}
 use Rattle.std.proofs.lemmas.Result.{err_from_is_err_and}
 use Rattle.shared_cache.specs.declared.log.ClientCall.TheVariants as call
 use Rattle.world_run.specs.Members.{seat}
 use Rattle.world_run.specs.MemberTurns.{TurnGives}
-use Rattle.world_run.proofs.Answering.{turn_after, turn_before, turn_ends}
+use Rattle.world_run.proofs.Answering.{kept_setup, turn_after, turn_before, turn_ends}
 use Rattle.world_run.proofs.Printing.{sent_before}
 use Rattle.world_run.proofs.member.Member.send.Goals as goal
 
-pub returns-in_err-sent : goal.returns-in_err-sent
-returns-in_err-sent c = grind (arith, err_from_is_err_and, turn_before)
+pub returns-in_err-sent-clause-gives : goal.returns-in_err-sent-clause-gives
+returns-in_err-sent-clause-gives c = grind (arith, err_from_is_err_and, turn_before)
 
-pub returns-in_err-line : goal.returns-in_err-line
-returns-in_err-line c =
-    let s = seat c.args.links.now c.args.self.now in
+pub returns-in_err-reply-clause-setup : goal.returns-in_err-reply-clause-setup
+returns-in_err-reply-clause-setup c =
+    kept_setup c.args.links.now (call.Send c.in_ok-sent.sent) c.args.self.now c.play.new.self
+    (Err c.in_err-reply.field-0.0) c.in_err-reply.ensures
+
+pub returns-in_err-line-clause-gives : goal.returns-in_err-line-clause-gives
+returns-in_err-line-clause-gives c =
     let g = subst (λ a. TurnGives (call.Send a) c.args.self.now (Ok c.in_ok-reply.reply)
     c.play.new.self) c.in_ok-sent.ensures c.in_ok-reply.ensures in
     let p = err_from_is_err_and c.from_residual-in_err-line.result
     c.from_residual-in_err-line.ensures.1 in
-    rw p.1 (rw p.2 (turn_after s (call.Send c.args.words.now) c.play.new.self
-    c.in_ok-reply.reply g.0 g.1 c.args.lines.now c.args.lines.now refl))
+    rw p.1 (rw p.2 (λ e r. turn_after e (seat c.args.links.now c.args.self.now r)
+    (call.Send c.args.words.now) c.play.new.self c.in_ok-reply.reply g.0 g.1 c.args.lines.now
+    c.args.lines.now refl))
 
-pub returns-in_err-put_line : goal.returns-in_err-put_line
-returns-in_err-put_line c =
-    let s = seat c.args.links.now c.args.self.now in
+pub returns-in_err-put_line-clause-gives : goal.returns-in_err-put_line-clause-gives
+returns-in_err-put_line-clause-gives c =
     let g = subst (λ a. TurnGives (call.Send a) c.args.self.now (Ok c.in_ok-reply.reply)
     c.play.new.self) c.in_ok-sent.ensures c.in_ok-reply.ensures in
     let p = err_from_is_err_and c.from_residual-in_err-put_line.result
     c.from_residual-in_err-put_line.ensures.1 in
-    rw p.1 (rw p.2 (turn_after s (call.Send c.args.words.now) c.play.new.self
-    c.in_ok-reply.reply g.0 g.1 c.args.lines.now c.put_line.new.lines
-    c.in_err-put_line.ensures.err))
+    rw p.1 (rw p.2 (λ e r. turn_after e (seat c.args.links.now c.args.self.now r)
+    (call.Send c.args.words.now) c.play.new.self c.in_ok-reply.reply g.0 g.1 c.args.lines.now
+    c.put_line.new.lines c.in_err-put_line.ensures.err))
 
-pub returns : goal.returns
-returns c =
-    let s = seat c.args.links.now c.args.self.now in
+pub returns-clause-gives : goal.returns-clause-gives
+returns-clause-gives c =
     let m = c.play.new.self in
     let g = subst (λ a. TurnGives (call.Send a) c.args.self.now (Ok c.in_ok-reply.reply)
     c.play.new.self) c.in_ok-sent.ensures c.in_ok-reply.ensures in
-    turn_ends s (call.Send c.args.words.now) m c.in_ok-reply.reply g.0 g.1 c.args.lines.now
+    λ e r. let s = seat c.args.links.now c.args.self.now r in
+    turn_ends e s (call.Send c.args.words.now) m c.in_ok-reply.reply g.0 g.1 c.args.lines.now
     c.put_line.new.lines g.2
     (c.in_ok-put_line.ensures.ok
     ∙ ap (λ x. c.args.lines.now ++ x) (c.in_ok-line.ensures

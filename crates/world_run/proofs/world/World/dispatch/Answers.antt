@@ -24,36 +24,39 @@ pub invariant_of-self : goal.invariant_of-self
 unfolding step
 invariant_of-self c = (
   (let i = c.self.inside in
-      over_step i.living (Now c.in-Now.moment) (world i.log_max i.links i.members.items)
-      (world i.log_max c.set_clock.new.self i.members.items) c.args.lines.now (Ok (tt {0}))
-      c.args.lines.now
-      (clock_gives i.log_max i.links c.set_clock.new.self i.members.items c.args.lines.now
-      c.in-Now.moment c.set_clock.ensures) c.self.invariant.0),
+      over_step i.living (Now c.in-Now.moment)
+      (world i.log_max i.links i.members.items i.ends.items)
+      (world i.log_max c.set_clock.new.self i.members.items i.ends.items) c.args.lines.now
+      (Ok (tt {0})) c.args.lines.now
+      (clock_gives i.log_max i.links c.set_clock.new.self i.members.items i.ends.items
+      c.args.lines.now c.in-Now.moment c.set_clock.ensures) c.self.invariant.0),
   c.self.invariant.1,
+  c.self.invariant.2,
 )
 
 pub returns-in-Now : goal.returns-in-Now
 unfolding step
 returns-in-Now c =
     let i = c.self.inside in
-    let v = world i.log_max c.set_clock.new.self i.members.items in
+    let v = world i.log_max c.set_clock.new.self i.members.items i.ends.items in
     subst (λ (e : Event). StepGives c.args.self.now e c.args.lines.now (Ok (tt {0})) v
     c.args.lines.now) (sym c.in-Now.is)
     (subst (λ (w : WorldState). StepGives w (Now c.in-Now.moment) c.args.lines.now (Ok (tt {0})) v
     c.args.lines.now) c.self.view_is
-    (clock_gives i.log_max i.links c.set_clock.new.self i.members.items c.args.lines.now
-    c.in-Now.moment c.set_clock.ensures))
+    (clock_gives i.log_max i.links c.set_clock.new.self i.members.items i.ends.items
+    c.args.lines.now c.in-Now.moment c.set_clock.ensures))
 
 pub invariant_of-self-in-Tick : goal.invariant_of-self-in-Tick
 unfolding step
 invariant_of-self-in-Tick c = (
   (let i = c.self-in-Tick.inside in
-      over_step i.living Tick (world i.log_max i.links i.members.items)
-      (world i.log_max c.tick.new.self i.members.items) c.args.lines.now c.tick.result
+      over_step i.living Tick (world i.log_max i.links i.members.items i.ends.items)
+      (world i.log_max c.tick.new.self i.members.items i.ends.items) c.args.lines.now c.tick.result
       c.tick.new.lines
-      (links_give i.log_max link_event.Tick i.links c.tick.new.self i.members.items c.args.lines.now
-      c.tick.result c.tick.new.lines c.tick.ensures) c.self-in-Tick.invariant.0),
+      (links_give i.log_max link_event.Tick i.links c.tick.new.self i.members.items i.ends.items
+      c.args.lines.now c.tick.result c.tick.new.lines c.tick.ensures) c.self-in-Tick.invariant.0),
   c.self-in-Tick.invariant.1,
+  c.self-in-Tick.invariant.2,
 )
 
 pub returns-in-Tick : goal.returns-in-Tick

@@ -15,6 +15,7 @@ invariant_of-self c = (
       (noted i.living c.note.new.self c.args.over to c.note.result c.args.self.now
       c.note.ensures.ok c.note.ensures.err c.note.ensures.others run are)),
   c.self.invariant.1,
+  c.self.invariant.2,
 )
 
 pub returns-clause-over : goal.returns-clause-over

@@ -11,10 +11,12 @@ pub invariant_of-self : goal.invariant_of-self
 invariant_of-self c = (
   (let i = c.self.inside in
       let event = Over c.args.name.now c.args.movement in
-      over_links i.living c.args.name.now c.args.movement (world i.log_max i.links i.members.items)
-      (world i.log_max c.play.new.self i.members.items) c.args.lines.now c.play.result
+      over_links i.living c.args.name.now c.args.movement
+      (world i.log_max i.links i.members.items i.ends.items)
+      (world i.log_max c.play.new.self i.members.items i.ends.items) c.args.lines.now c.play.result
       c.play.new.lines
-      (links_give i.log_max event i.links c.play.new.self i.members.items c.args.lines.now
-      c.play.result c.play.new.lines c.play.ensures) c.self.invariant.0),
+      (links_give i.log_max event i.links c.play.new.self i.members.items i.ends.items
+      c.args.lines.now c.play.result c.play.new.lines c.play.ensures) c.self.invariant.0),
   c.self.invariant.1,
+  c.self.invariant.2,
 )

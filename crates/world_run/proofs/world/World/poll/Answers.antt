@@ -4,7 +4,7 @@ use Rattle.script_text.specs.declared.event.Event.TheVariants as event
 use Rattle.world_run.specs.Members.{world}
 use Rattle.world_run.specs.ClientMoves.{turn}
 use Rattle.world_run.specs.World.{StepGives, step}
-use Rattle.world_run.proofs.WorldCode.{named_none, named_turn, still_over}
+use Rattle.world_run.proofs.WorldCode.{named_acts, named_clients, named_none, still_over}
 use Rattle.world_run.proofs.world.World.poll.Goals as goal
 use Rattle.world_run.proofs.world.World.poll.Goals.{After-poll}
 
@@ -14,21 +14,28 @@ returns-in_default c = grind (arith, named_none)
 
 gave : (c : After-poll) → StepGives c.args.self.now (event.Poll c.args.name.now c.args.number)
     c.args.lines.now c.poll.result (world c.self.inside.log_max c.self.inside.links
-    (slice_set c.self.inside.members.items c.in-Some.at c.poll.new.self)) c.poll.new.lines
+    (slice_set c.self.inside.members.items c.client-client.result c.poll.new.self)
+    c.self.inside.ends.items) c.poll.new.lines
 unfolding step
 gave c =
     let i = c.self.inside in
-    named_turn i.log_max c.args.name.now (turn (call.Poll c.args.number)) c.args.self.now i.links
-    i.links i.members.items c.in-Some.at c.index_mut.result.now c.poll.new.self c.args.lines.now
-    c.poll.result c.poll.new.lines c.self.view_is (sym c.client_named.ensures ∙ c.in-Some.is)
-    c.index_mut.ensures.value c.poll.ensures
+    named_acts i.log_max c.args.name.now c.args.self.now i.links i.members.items i.ends.items
+    c.in-Some.at c.index.result.now c.client-client.result c.index_mut.result.now c.self.view_is
+    c.self.invariant.1 (sym c.end_named.ensures ∙ c.in-Some.is) c.index.ensures
+    c.client-client.ensures c.index_mut.ensures.value (turn (call.Poll c.args.number))
+    c.poll.new.self c.args.lines.now c.poll.result c.poll.new.lines c.poll.ensures.gives
 
 pub returns : goal.returns
 returns c = gave (goal.at.returns c).After-poll
 
 pub invariant_of-self : goal.invariant_of-self
 invariant_of-self c = (
-  (still_over _ _ _ _ _ _ _ _ c.self.view_is (gave (goal.at.invariant_of-self c).After-poll)
-      c.self.invariant.0),
-  c.self.invariant.1,
+  still_over _ _ _ _ _ _ _ _ c.self.view_is (gave (goal.at.invariant_of-self c).After-poll)
+      c.self.invariant.0,
+  (let i = c.self.inside in
+      named_clients i.log_max c.args.name.now c.args.self.now i.links i.members.items i.ends.items
+      c.in-Some.at c.index.result.now c.client-client.result c.index_mut.result.now c.self.view_is
+      c.self.invariant.1 (sym c.end_named.ensures ∙ c.in-Some.is) c.index.ensures
+      c.client-client.ensures c.index_mut.ensures.value c.poll.new.self c.poll.ensures.setup),
+  c.self.invariant.2,
 )

@@ -19,23 +19,24 @@ returns-then-is_taken c =
     (grind arith)
 
 gave : (c : After-raw) → StepGives c.args.self.now (event.Raw c.args.name.now) c.args.lines.now
-    c.raw.result (world c.self.inside.log_max c.raw.new.self c.self.inside.members.items)
+    c.raw.result (world c.self.inside.log_max c.raw.new.self c.self.inside.members.items
+    c.self.inside.ends.items)
     c.raw.new.lines
 unfolding step
 gave c =
     let i = c.self.inside in
     let e = Raw c.args.name.now in
-    let t = world i.log_max c.raw.new.self i.members.items in
+    let w = world i.log_max i.links i.members.items i.ends.items in
+    let t = world i.log_max c.raw.new.self i.members.items i.ends.items in
     subst (λ (v : WorldState). Gives (cond (is_taken c.args.name.now v)
     (refuses v taken.NameTaken) (links_step e v)) c.args.lines.now c.raw.result t c.raw.new.lines)
     c.self.view_is
-    (subst (λ b. Gives (cond b (refuses (world i.log_max i.links i.members.items) taken.NameTaken)
-    (links_step e (world i.log_max i.links i.members.items))) c.args.lines.now c.raw.result t
-    c.raw.new.lines)
+    (subst (λ b. Gives (cond b (refuses w taken.NameTaken) (links_step e w)) c.args.lines.now
+    c.raw.result t c.raw.new.lines)
     (sym (ap (is_taken c.args.name.now) c.self.view_is ∙ sym c.is_taken.ensures
     ∙ c.if-is_taken.false))
-    (code.links_give i.log_max e i.links c.raw.new.self i.members.items c.args.lines.now
-    c.raw.result c.raw.new.lines c.raw.ensures))
+    (code.links_give i.log_max e i.links c.raw.new.self i.members.items i.ends.items
+    c.args.lines.now c.raw.result c.raw.new.lines c.raw.ensures))
 
 pub returns : goal.returns
 returns c = gave (goal.at.returns c).After-raw
@@ -45,4 +46,5 @@ invariant_of-self c = (
   (code.still_over _ _ _ _ _ _ _ _ c.self.view_is
       (gave (goal.at.invariant_of-self c).After-raw) c.self.invariant.0),
   c.self.invariant.1,
+  c.self.invariant.2,
 )

@@ -7,7 +7,7 @@ use Rattle.server_links.specs.LinkEvent.{Put}
 use Rattle.server_links.specs.LinkSteps.{place_of}
 use Rattle.world_run.specs.Members.{world}
 use Rattle.world_run.specs.World.{StepGives, said_step, step}
-use Rattle.world_run.specs.WorldState.{WorldState, client_of_link}
+use Rattle.world_run.specs.WorldState.{WorldState, end_of_link}
 use Rattle.world_run.proofs.WorldCode as code
 use Rattle.world_run.proofs.world.World.say.Goals as goal
 use Rattle.world_run.proofs.world.World.say.Goals.{After-put}
@@ -18,7 +18,7 @@ returns-then-is_some c =
     let w = c.args.self.now in
     let name = c.args.name.now in
     let bytes = request_spelling c.args.words.now in
-    let o = client_of_link name w.members in
+    let o = end_of_link name w.ends in
     code.no_name w (said_step o name bytes w) c.args.lines.now
     (grind arith)
 
@@ -28,8 +28,8 @@ returns-then-is_none c =
     let w = c.args.self.now in
     let name = c.args.name.now in
     let bytes = request_spelling c.args.words.now in
-    let none = sym c.client_of_link.ensures
-    ∙ code.a_none c.client_of_link.result (sym c.is_some.ensures ∙ c.if-is_some.false) in
+    let none = sym c.end_of_link.ensures
+    ∙ code.a_none c.end_of_link.result (sym c.is_some.ensures ∙ c.if-is_some.false) in
     let nowhere = ap (λ (v : WorldState). place_of name v.links) (sym c.self.view_is)
     ∙ sym c.place_of.ensures
     ∙ code.a_none c.place_of.result (c.is_none.ensures ∙ ap not c.if-is_none.true) in
@@ -42,8 +42,8 @@ returns-in_err-put_request c =
     let w = c.args.self.now in
     let name = c.args.name.now in
     let bytes = request_spelling c.args.words.now in
-    let none = sym c.client_of_link.ensures
-    ∙ code.a_none c.client_of_link.result (sym c.is_some.ensures ∙ c.if-is_some.false) in
+    let none = sym c.end_of_link.ensures
+    ∙ code.a_none c.end_of_link.result (sym c.is_some.ensures ∙ c.if-is_some.false) in
     let at = code.a_some c.place_of.result (c.is_none.ensures ∙ ap not c.if-is_none.false) in
     let p = err_from_is_err_and c.from_residual.result c.from_residual.ensures.1 in
     rw p.1 (rw p.2
@@ -54,7 +54,8 @@ returns-in_err-put_request c =
 
 gave : (c : After-put) → StepGives c.args.self.now
     (event.Say c.args.name.now c.args.words.now) c.args.lines.now c.put.result
-    (world c.self.inside.log_max c.put.new.self c.self.inside.members.items) c.put.new.lines
+    (world c.self.inside.log_max c.put.new.self c.self.inside.members.items
+    c.self.inside.ends.items) c.put.new.lines
 unfolding step
 gave c =
     let i = c.self.inside in
@@ -63,8 +64,8 @@ gave c =
     let bytes = request_spelling c.args.words.now in
     let written : c.as_slice.result.now ≡ bytes = grind arith in
     code.unowned i.log_max (λ o. said_step o name bytes w) name (Put name bytes) w i.links
-    c.put.new.self i.members.items c.args.lines.now c.put.result c.put.new.lines c.self.view_is
-    (grind arith) refl
+    c.put.new.self i.members.items i.ends.items c.args.lines.now c.put.result c.put.new.lines
+    c.self.view_is (grind arith) refl
     (grind arith)
 
 pub returns : goal.returns
@@ -75,4 +76,5 @@ invariant_of-self c = (
   (code.still_over _ _ _ _ _ _ _ _ c.self.view_is
       (gave (goal.at.invariant_of-self c).After-put) c.self.invariant.0),
   c.self.invariant.1,
+  c.self.invariant.2,
 )

@@ -1,0 +1,12 @@
+use Rattle.std.proofs.Common.{arith}
+use Rattle.world_run.proofs.Linked.{links_give, over_kept}
+use Rattle.world_run.proofs.link_end.LinkEnd.over.Goals as goal
+
+pub returns-clause-gives : goal.returns-clause-gives
+returns-clause-gives c m r = grind (arith, links_give)
+
+pub returns-clause-limits : goal.returns-clause-limits
+returns-clause-limits c = grind (arith, over_kept)
+
+pub returns-clause-count : goal.returns-clause-count
+returns-clause-count c = grind (arith, over_kept)
