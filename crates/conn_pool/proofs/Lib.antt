@@ -1,5 +1,6 @@
 mod Crossing
 mod Showing
 mod Tying
+mod Parting
 mod Once
 mod Leaving

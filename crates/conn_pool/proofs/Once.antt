@@ -12,11 +12,12 @@ use Rattle.serial_model.specs.declared.history.Entry.{Entry}
 use Rattle.serial_model.specs.declared.history.Entry.TheVariants.{Admit, Run, Tick, Take, Close}
 use Rattle.serial_model.specs.History.{admitted, IsLegal}
 use Rattle.serial_model.proofs.Turning.{by_step, step_legal}
-use Rattle.seat_turns.specs.Own.{with_pasts, turns_of}
+use Rattle.seat_turns.specs.Own.{past_of, with_pasts, turns_of}
 use Rattle.shared_book.specs.Turns.{Place, Turn, TurnStep}
 use Rattle.seat_turns.proofs.Owning.{own_all, pasts_length}
 use Rattle.conn_worker.specs.declared.report.Report.{Report}
-use Rattle.conn_pool.specs.Ties.{admits, runs, names, requests, Tied}
+use Rattle.conn_worker.specs.Elsewhere.{closes, quits}
+use Rattle.conn_pool.specs.Ties.{Parted, admits, closing, names, quitting, requests, runs, Tied}
 
 module _ (l : Limits) where
   -- each of its entries is one that a turn of the server adds
@@ -71,3 +72,16 @@ module _ (k : Place) (all : (p : ℕ) → p < length k.seen → times p k.own �
       → total (runs n) (entries k.seen) ≡ total (requests n) rs
   unfolding Tied
   tied_runs rs t n pos = sym (whole (runs n)) ∙ (t n pos).1
+
+  pub parted_closes : (rs : List Report) → Parted rs (turns_of k) (past_of k) → (n : ℕ) → 0 < n
+      → total (closes n) (entries k.seen) ≤ total (closing n) rs
+  unfolding Parted
+  parted_closes rs p n pos =
+      let all = whole (closes n) in let most = (p n pos).0 in omega (arith, all, most)
+
+  pub parted_quits : (rs : List Report) → Parted rs (turns_of k) (past_of k) → (n : ℕ) → 0 < n
+      → total (closes n) (entries k.seen) ≡ 0
+      → total (quits n) (entries k.seen) ≤ total (quitting n) rs
+  unfolding Parted
+  parted_quits rs p n pos none =
+      let all = whole (quits n) in let most = (p n pos).1 none in omega (arith, all, most)

@@ -9,14 +9,15 @@ use Rattle.turn_lock.specs.History.{IsPrefix}
 use Rattle.serial_model.specs.declared.history.Entry.{Entry}
 use Rattle.serial_model.specs.declared.history.Entry.TheVariants.{Admit, Run, Tick, Take, Close}
 use Rattle.seat_turns.specs.Own.{own_list, with_pasts, turns_of, IsWithin, Grows}
-use Rattle.shared_book.specs.Turns.{Place, Turn, closed_turns}
+use Rattle.shared_book.specs.Turns.{Place, Turn}
 use Rattle.seat_turns.proofs.Owning.{own_joined, pasts_begins, pasts_within, total-append}
 use Rattle.seat_turns.proofs.Owning.{within_append, within_begins}
 use Rattle.seat_turns.proofs.Growing.{grows_then}
 use Rattle.conn_worker.specs.declared.report.Report.{Report}
 use Rattle.conn_worker.specs.Visits.{IsWork, runs_in, Visits, Served, NotServed}
+use Rattle.conn_worker.proofs.Parting.{Parts, close_turns, leaves_parts}
 use Rattle.conn_pool.specs.Shown.{AreShown}
-use Rattle.conn_pool.proofs.Showing.{shown_none, shown_same, shown_visit, shown_joined}
+use Rattle.conn_pool.proofs.Showing.{shown_visit}
 use Rattle.conn_pool.specs.Ties.{admits, runs, admitted_in, ran_in, Tied, Tells}
 
 work_admits : (id n : ℕ) (clock : Option ℕ) (ts : List Turn) → All (IsWork id clock) ts
@@ -50,7 +51,7 @@ count_none b = grind arith
 count_more : (b : Bool) (k : ℕ) → cond {A = ℕ} b 1 0 + cond {A = ℕ} b k 0 ≡ cond {A = ℕ} b (k + 1) 0
 count_more b k = grind arith
 
-work_runs : (id n : ℕ) (clock : Option ℕ) (ts : List Turn) → All (IsWork id clock) ts
+pub work_runs : (id n : ℕ) (clock : Option ℕ) (ts : List Turn) → All (IsWork id clock) ts
     → ran_in n ts ≡ cond (id == n) (length (runs_in ts)) 0
 work_runs id n clock [] h = count_none (id == n)
 work_runs id n clock ((Admit m, past) ∷ ts) h =
@@ -69,14 +70,17 @@ work_runs id n clock ((Take m most, past) ∷ ts) h =
 work_runs id n clock ((Close m, past) ∷ ts) h =
     absurd (All-head (IsWork id clock) (Close m, past) ts h)
 
-closed_admits : (id n : ℕ) (c : Option (List Entry)) → admitted_in n (closed_turns id c) ≡ 0
+closed_admits : (id n : ℕ) (c : Option (List Entry)) → admitted_in n (close_turns id c) ≡ 0
 closed_admits id n c = grind arith
 
-closed_runs : (id n : ℕ) (c : Option (List Entry)) → ran_in n (closed_turns id c) ≡ 0
+closed_runs : (id n : ℕ) (c : Option (List Entry)) → ran_in n (close_turns id c) ≡ 0
 closed_runs id n c = grind arith
 
 module _ (clock : Option ℕ) (r : Report) (left0 left1 link0 link1 : Option (List ℕ))
     (old new : Place) where
+  pub parts : (s : Served clock r left0 left1 link0 link1 old new) → Parts r.id s.last new r.ended
+  parts s = leaves_parts r.id s.last new s.cause r.ended s.works.grows.within s.leaves
+
   served_tells : Served clock r left0 left1 link0 link1 old new
       → Tells r (turns_of old) (turns_of new)
   unfolding Tells
@@ -84,20 +88,21 @@ module _ (clock : Option ℕ) (r : Report) (left0 left1 link0 link1 : Option (Li
       let f : Turn → ℕ = λ t. admits n t.0 in
       let g : Turn → ℕ = λ t. runs n t.0 in
       let w = s.works in
-      let c = closed_turns r.id s.closes.close in
+      let p = parts s in
+      let c = close_turns r.id p.close in
       let a : List Turn = (Admit r.id, s.admits.past) ∷ [] in
-      let a0 = ap (total f) s.closes.grows.own in
+      let a0 = ap (total f) p.grows.own in
       let a1 = total-append f c (turns_of s.last) in
       let a2 = ap (total f) w.grows.own in
       let a3 = total-append f w.turns (turns_of s.first) in
       let a4 = ap (total f) s.admits.grows.own in
-      let b0 = ap (total g) s.closes.grows.own in
+      let b0 = ap (total g) p.grows.own in
       let b1 = total-append g c (turns_of s.last) in
       let b2 = ap (total g) w.grows.own in
       let b3 = total-append g w.turns (turns_of s.first) in
       let b4 = ap (total g) s.admits.grows.own in
-      let ca = closed_admits r.id n s.closes.close in
-      let cr = closed_runs r.id n s.closes.close in
+      let ca = closed_admits r.id n p.close in
+      let cr = closed_runs r.id n p.close in
       let wa = work_admits r.id n clock w.turns w.work in
       let wr = work_runs r.id n clock w.turns w.work
       ∙ ap (λ k. cond (r.id == n) k 0) (sym w.counted) in (
@@ -115,18 +120,19 @@ module _ (clock : Option ℕ) (r : Report) (left0 left1 link0 link1 : Option (Li
   visit_tells (inl s) = unserved_tells s
   visit_tells (inr s) = served_tells s
 
-  served_grows : Served clock r left0 left1 link0 link1 old new
-      → (ts : List Turn) × Grows old new ts
-  served_grows s =
+  pub served_whole : (s : Served clock r left0 left1 link0 link1 old new)
+      → Grows old new (close_turns r.id (parts s).close
+      ++ (s.works.turns ++ (Admit r.id, s.admits.past) ∷ []))
+  served_whole s =
       let a : List Turn = (Admit r.id, s.admits.past) ∷ [] in
-      let first = grows_then old s.first s.last a s.works.turns s.admits.grows s.works.grows in (
-        closed_turns r.id s.closes.close ++ (s.works.turns ++ a),
-        grind (arith, grows_then),
-      )
+      let first = grows_then old s.first s.last a s.works.turns s.admits.grows s.works.grows in
+      let p = parts s in
+      grows_then old s.last new (s.works.turns ++ a) (close_turns r.id p.close) first p.grows
 
-  visit_grows : Visits clock r left0 left1 link0 link1 old new → (ts : List Turn) × Grows old new ts
-  visit_grows (inl s) = ([], s.refuses.0.grows)
-  visit_grows (inr s) = served_grows s
+  visit_grows : Visits clock r left0 left1 link0 link1 old new
+      → (ts : List Turn) × Grows old new ts
+  visit_grows (inl s) = ([], s.refuses.grows)
+  visit_grows (inr s) = (_, served_whole s)
 
   pub visit_lock : Visits clock r left0 left1 link0 link1 old new → new.lock ≡ old.lock
   visit_lock v = (visit_grows v).1.lock
@@ -200,9 +206,3 @@ within_none k is p le = ap (times p) is
 pub same_turns : (a b : Place) → b.seen ≡ a.seen → b.own ≡ a.own → turns_of b ≡ turns_of a
 unfolding turns_of
 same_turns a b s o = grind arith
-
-pub ruleset beginning = (tied_none, within_none, shown_none)
-
-pub ruleset splitting = (tied_none, within_none, shown_none, same_within, same_turns, shown_same)
-
-pub ruleset joining = (tied_joined, joined_within, shown_joined)

@@ -3,7 +3,7 @@ use Rattle.std.specs.Prelude.{◌≡◌, ◌≤◌, ◌<◌, ◌⊎◌, ℕ, Lis
 use Rattle.atomic_table.specs.Seated.{TableId}
 use Rattle.serial_model.specs.History.{is_stopped}
 use Rattle.seat_turns.specs.Own.{past_of}
-use Rattle.shared_book.specs.Turns.{Place, limits_of, Refuses, Ticks}
+use Rattle.shared_book.specs.Turns.{IsServerCause, Place, limits_of, Refuses, Ticks}
 use Rattle.shared_book.specs.declared.turns.Refusal.{Refusal}
 use Rattle.conn_worker.specs.declared.report.Report.{Report}
 
@@ -38,7 +38,7 @@ IsStopped k = is_stopped (limits_of k) (past_of k) ≡ true
 -- a Tick was played, or refused
 abbrev pub Looks : Place → Place → Type 0
 Looks old new =
-    ((now : ℕ) × Ticks now old new) ⊎ ((e : Refusal) × Refuses e 0 old new)
+    ((now : ℕ) × Ticks now old new) ⊎ ((e : Refusal) × Refuses IsServerCause e old new)
 
 -- it takes no more links: it left the dispatcher, or a SHUTDOWN ran
 abbrev pub Leaves : Team → Team → Type 0

@@ -1,10 +1,13 @@
 -- Reports and the turns that they speak of.
-use Rattle.std.specs.Prelude.{◌≡◌, ◌<◌, ◌+◌, ℕ, ◌==◌, cond, List}
+use Rattle.std.specs.Prelude.{◌≡◌, ◌<◌, ◌≤◌, ◌+◌, ℕ, ◌==◌, cond, List}
 use Rattle.turn_lock.specs.Counts.{total}
 use Rattle.serial_model.specs.declared.history.Entry.{Entry}
 use Rattle.serial_model.specs.declared.history.Entry.TheVariants.{Admit, Run, Tick, Take, Close}
 use Rattle.shared_book.specs.Turns.{Turn}
 use Rattle.conn_worker.specs.declared.report.Report.{Report}
+use Rattle.conn_worker.specs.declared.report.Ended.{Ended}
+use Rattle.conn_worker.specs.declared.report.Ended.TheVariants as ended
+use Rattle.conn_worker.specs.Elsewhere.{closes, closes_in, quits_in}
 
 -- an Admit of the connection, and a Run of it
 abbrev pub admits : ℕ → Entry → ℕ
@@ -43,3 +46,27 @@ Tied reports turns = (n : ℕ) → 0 < n → (admitted_in n turns ≡ total (nam
 unfoldable pub Tells : Report → List Turn → List Turn → Type 0
 Tells r old new = (n : ℕ) → 0 < n → (admitted_in n new ≡ names n r + admitted_in n old)
     × (ran_in n new ≡ requests n r + ran_in n old)
+
+-- a number that counts for each end of a connection but that it was dropped
+abbrev pub unless_dropped : Ended → ℕ → ℕ
+unless_dropped ended.PeerEnd n = n
+unless_dropped ended.Quit n = n
+unless_dropped ended.Dropped n = 0
+unless_dropped (ended.BadRequest fault) n = n
+unless_dropped ended.LinkFault n = n
+unless_dropped ended.NoMemory n = n
+unless_dropped ended.Worn n = n
+unless_dropped ended.Stopped n = n
+
+-- at most so many Closes and QUITs of the connection does a report speak of
+abbrev pub closing : ℕ → Report → ℕ
+closing n r = cond (r.id == n) (unless_dropped r.ended 1) 0
+
+abbrev pub quitting : ℕ → Report → ℕ
+quitting n r = cond (r.id == n) (unless_dropped r.ended r.requests) 0
+
+-- A connection that is reported as dropped was closed by none of these turns, nor did its QUIT run
+-- in one, unless the history has a Close of it.
+unfoldable pub Parted : List Report → List Turn → List Entry → Type 0
+Parted reports turns past = (n : ℕ) → 0 < n → (closes_in n turns ≤ total (closing n) reports)
+    × (total (closes n) past ≡ 0 → quits_in n turns ≤ total (quitting n) reports)

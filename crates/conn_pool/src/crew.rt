@@ -1,8 +1,8 @@
 //! The workers.
 ghost use Rattle.std.specs.Thread.{IsSync};
 ghost use Rattle.std.specs.Prelude.{◌≡◌, ◌+◌, ◌-◌, ◌<◌, ◌≤◌, [], true, false, length, IfSome};
-ghost use Rattle.seat_turns.specs.Own.{IsWithin, turns_of};
-ghost use Rattle.conn_pool.specs.Ties.{Tied};
+ghost use Rattle.seat_turns.specs.Own.{IsWithin, past_of, turns_of};
+ghost use Rattle.conn_pool.specs.Ties.{Parted, Tied};
 ghost use Rattle.turn_lock.specs.History.{IsPrefix};
 ghost use Rattle.conn_pool.specs.Crew.{IsStopped, Leaves, Looks, Ready, Same};
 ghost use Rattle.conn_pool.specs.Shown.{AreShown};
@@ -30,9 +30,9 @@ pub struct Crew<L: Ledger, E: Ledger> {
 
 impl<L: Ledger, E: Ledger> Model for Crew<L, E> {
     ghost use Rattle.std.specs.Prelude.{◌≡◌, false, length};
-    ghost use Rattle.seat_turns.specs.Own.{IsWithin, turns_of};
+    ghost use Rattle.seat_turns.specs.Own.{IsWithin, past_of, turns_of};
     ghost use Rattle.conn_pool.specs.Crew.{Team};
-    ghost use Rattle.conn_pool.specs.Ties.{Tied};
+    ghost use Rattle.conn_pool.specs.Ties.{Parted, Tied};
     ghost use Rattle.conn_pool.specs.Shown.{AreShown};
 
     ghost Value = { Team };
@@ -50,7 +50,9 @@ impl<L: Ledger, E: Ledger> Model for Crew<L, E> {
     ghost invariant = { λ c. IsWithin c.seat
         × (c.lost ≡ false → c.links.amount ≡ length c.reports.items)
         × (c.lost ≡ false → Tied c.reports.items (turns_of c.seat))
-        × (c.lost ≡ false → AreShown c.reports.items c.seat) };
+        × (c.lost ≡ false → AreShown c.reports.items c.seat)
+        × (c.lost ≡ false
+        → Parted c.reports.items (turns_of c.seat) (past_of c.seat)) };
 }
 
 // Whether a SHUTDOWN ran, which a Tick finds; the keys that are due leave by it.
@@ -137,7 +139,7 @@ impl<L: Opening, E: Ledger> Crew<L, E> {
 
 impl<L: Ledger, E: Ledger> Crew<L, E> {
     /// A worker that has nothing yet.
-    #[tactic(auto, using(crate::proofs::Tying::beginning))]
+    #[tactic(auto, using(crate::proofs::Parting::beginning))]
     pub fn new(alloc: Global, seat: Seat<SharedBook>, links: Share<L>, gone: Share<E>) -> Self
         requires within { IsWithin seat }
         requires own { seat.own ≡ [] }
@@ -168,7 +170,8 @@ impl<L: Ledger, E: Ledger> Crew<L, E> {
         ensures gone { (result.2.amount ≡ self.gone) × (result.2.parts ≡ self.gone_parts) }
         ensures reports { IfSome result.3
             (λ v. (self.links ≡ length v.items) × Tied v.items (turns_of self.seat)
-            × AreShown v.items self.seat) }
+            × AreShown v.items self.seat
+            × Parted v.items (turns_of self.seat) (past_of self.seat)) }
     {
         let Crew {
             seat,
@@ -181,7 +184,7 @@ impl<L: Ledger, E: Ledger> Crew<L, E> {
     }
 
     /// A new worker, with some of the parts.
-    #[tactic(auto, using(crate::proofs::Tying::splitting))]
+    #[tactic(auto, using(crate::proofs::Parting::splitting))]
     fn split(&mut self, alloc: Global, lock: &TurnLock<SharedBook>, workers: u64) -> Self
         requires lock { self.old.seat.lock ≡ lock.now }
         requires parts { (1 ≤ workers) × (workers < self.old.seat.parts)
@@ -204,7 +207,7 @@ impl<L: Ledger, E: Ledger> Crew<L, E> {
     }
 
     /// Joins the other into this one. Where there is no memory, the reports are lost.
-    #[tactic(auto, using(crate::proofs::Tying::joining))]
+    #[tactic(auto, using(crate::proofs::Parting::joining))]
     fn join(&mut self, lock: &TurnLock<SharedBook>, other: Self)
         requires lock { (self.old.seat.lock ≡ lock.now) × (other.seat.lock ≡ lock.now) }
         requires setup { other.seat.setup ≡ self.old.seat.setup }

@@ -11,18 +11,18 @@ use Rattle.resp_value.specs.Lists.{IsPrefix}
 use Rattle.serial_model.specs.declared.history.Limits.{Limits}
 use Rattle.serial_model.specs.declared.history.Entry.{Entry}
 use Rattle.serial_model.specs.declared.history.Entry.TheVariants.{Take}
-use Rattle.serial_model.specs.History.{is_admitted, reads_on, stream, taken, unsent}
+use Rattle.serial_model.specs.History.{gives_on, is_admitted, reads_on, stream, taken, unsent}
 use Rattle.serial_model.proofs.Streams.{stream_take}
 use Rattle.seat_turns.specs.Own.{past_of, IsWithin, Grows}
 use Rattle.resp_value.specs.declared.octets.Octets.{Octets}
 use Rattle.shared_book.specs.Turns.{Place, Turn, Gives, Rests, Refuses, Takes, limits_in, limits_of}
-use Rattle.shared_book.specs.Turns.{most}
+use Rattle.shared_book.specs.Turns.{IsCause, most}
 use Rattle.shared_book.specs.declared.turns.Refusal.{Refusal}
 use Rattle.seat_turns.proofs.Growing.{grows_none, grows_then, grows_past, order_append}
 use Rattle.shared_book.proofs.Histories.{begins_lift, admitted_more, stream_begins, unsent_kept}
 use Rattle.conn_worker.specs.declared.report.Ended.TheVariants as ended
 use Rattle.conn_worker.specs.declared.report.Ended.{Ended}
-use Rattle.conn_worker.specs.Visits.{IsWork, IsEnd, ended_by, runs_in, gave, Delivers, DeliversPart}
+use Rattle.conn_worker.specs.Visits.{IsWork, ended_by, runs_in, gave, Delivers, DeliversPart}
 use Rattle.conn_worker.specs.Visits.{Begins}
 use Rattle.conn_worker.specs.declared.deliver.Front.TheVariants.{Taken}
 use Rattle.edge_links.proofs.Bytes.{appends_none, appends_more, appends_as}
@@ -138,7 +138,7 @@ module _ (id : ℕ) (link0 link1 : Option (List ℕ)) (old new : Place)
             omega (arith, before, all);
       }
 
-  pub delivers_refused : (r : Refusal) (last : Place) → Refuses r id new last
+  pub delivers_refused : (r : Refusal) (last : Place) → Refuses (IsCause gives_on id) r new last
       → DeliversPart (ended_by r) id link0 link1 old last
   delivers_refused r last g = record {
     turns = d.turns;
@@ -148,11 +148,9 @@ module _ (id : ℕ) (link0 link1 : Option (List ℕ)) (old new : Place)
     bytes = gave (limits_of old) d.turns;
     wrote = d.wrote;
     front = ([], append-nil (gave (limits_of old) d.turns));
-    cause_is = inr (by_case r g);
+    all_wrote = λ link. refl;
+    cause_is = inr (record { refusal = r; is = refl; cause_is = g.cause_is });
   }
-    where
-      by_case : (r : Refusal) → Refuses r id new last → IsEnd (ended_by r) id last
-      by_case r h = grind arith
 
 pub takes_at : (id : ℕ) (r s : Option Octets) (old new : Place) → Takes id r old new → r ≡ s
     → Takes id s old new
@@ -194,6 +192,8 @@ module _ (id : ℕ) (link0 link1 link2 : Option (List ℕ)) (old mid new : Place
         bytes = gave l d.turns ++ e.bytes;
         wrote = appends_more link0 link1 link2 (gave l d.turns) e.bytes d.wrote e.wrote;
         front = grind (arith, append_assoc, order_append, mid_limits);
+        all_wrote = λ link.
+            let rest = e.all_wrote link in grind (arith, order_append, mid_limits);
         cause_is = e.cause_is;
       }
 

@@ -1,3 +1,4 @@
+pub mod Leaving
 mod Quitting
 pub mod Stopping
 mod Further
@@ -5,5 +6,6 @@ mod Turning
 mod Running
 mod Ticking
 mod Delivering
-mod Serving
+pub mod Serving
 mod Rounding
+pub mod Parting

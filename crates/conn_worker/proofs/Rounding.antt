@@ -2,7 +2,7 @@
 use Rattle.std.proofs.Common.{◌≡◌, ◌≤◌, ℕ, List, ◌++◌, length, take, true, Some, None, refl, sym}
 use Rattle.std.proofs.Common.{ap}
 use Rattle.std.proofs.Common.{subst, ◌∙◌, arith, inl, inr}
-use Rattle.std.specs.Prelude.{Option, Err}
+use Rattle.std.specs.Prelude.{Option, Err, ◌⊎◌, []}
 use Rattle.std.specs.List.{All}
 use Rattle.std.specs.Io.KnownBytes.{Keeps}
 use Rattle.std.proofs.lemmas.List.{length-take-le}
@@ -10,12 +10,15 @@ use Rattle.std.proofs.lemmas.Option.{same_Some}
 use Rattle.resp_stream.specs.Parse.{parse, requests_of}
 use Rattle.resp_stream.specs.Stream.{fed}
 use Rattle.resp_stream.proofs.Onward.{GoesOn}
-use Rattle.serial_model.specs.History.{is_admitted}
+use Rattle.serial_model.specs.History.{gives_on, is_admitted}
 use Rattle.seat_turns.specs.Own.{past_of}
 use Rattle.seat_turns.proofs.Growing.{grows_past}
-use Rattle.shared_book.specs.Turns.{Place, Takes}
+use Rattle.shared_book.specs.Turns.{IsCause, Place, Takes, Turn}
+use Rattle.shared_book.specs.declared.turns.Refusal.{Refusal}
+use Rattle.shared_book.specs.declared.turns.Refusal.TheVariants as refusal
 use Rattle.shared_book.proofs.Histories.{begins_lift, admitted_more}
 use Rattle.conn_worker.specs.declared.report.Ended.{Ended}
+use Rattle.conn_worker.specs.declared.report.Ended.TheVariants as ended
 use Rattle.conn_worker.specs.declared.connection.Connection.{Connection}
 use Rattle.conn_worker.specs.declared.connection.Stop.{Stop}
 use Rattle.conn_worker.specs.Quits.{ended_at, stop_in, up_to_quit}
@@ -25,11 +28,25 @@ use Rattle.conn_worker.specs.declared.serve.Heard.TheVariants as came
 use Rattle.conn_worker.specs.Visits.{IsWork, IsEnd, fed_connection, runs_in, Standing}
 use Rattle.conn_worker.specs.Visits.{Begins, Delivers, DeliversPart, DeliveryCounts, stop_of}
 use Rattle.conn_worker.specs.Visits.{front_of, Hears, HearsPart, Idle, Piece, Nothing}
-use Rattle.conn_worker.specs.Visits.{Unticked, Part, RunsAll, RunsPart, Idles}
+use Rattle.conn_worker.specs.Visits.{Unticked, Part, RunsAll, RunsPart, Idles, ended_by}
 use Rattle.conn_worker.specs.Rounds.{most_read, RunsNew, RunsSome, TicksOrLeaves, Hearing, Waited}
 use Rattle.conn_worker.specs.Rounds.{Came, Round, Rounds, Onward, AtEnd}
 use Rattle.conn_worker.specs.Rounds.{NoTick, Refused, Unwritten, NoFurther, Serves}
 use Rattle.conn_worker.proofs.Further.{prefix_behind, read_further, stop_further, until_further}
+use Rattle.conn_worker.proofs.Leaving.{had_ended_any, had_ended_ungiven}
+use Rattle.conn_worker.proofs.Ticking.{idles_pass}
+
+-- whatever turns it is behind
+end_any : (cause : Ended) (id : ℕ) (ts : List Turn) (k : Place) → IsEnd cause id ts k
+    → IsEnd cause id [] k
+end_any ended.PeerEnd id ts k e = absurd e
+end_any ended.Quit id ts k e = absurd e
+end_any ended.Dropped id ts k e = had_ended_any id ts k e
+end_any (ended.BadRequest f) id ts k e = absurd e
+end_any ended.LinkFault id ts k e = absurd e
+end_any ended.NoMemory id ts k e = tt
+end_any ended.Worn id ts k e = e
+end_any ended.Stopped id ts k e = absurd e
 
 -- whole rounds, and the reader reads on behind them
 pub record Rounded (clock : Option ℕ) (id : ℕ) (c : Connection) (start now : Standing) : Type 0
@@ -51,6 +68,7 @@ pub record Halfway (clock : Option ℕ) (id : ℕ) (stop : Option Stop) (front :
   pub middle : Place
   pub hears : Hearing clock id before after old (record now { place = middle })
   pub begins : Begins id front middle now.place
+  pub admitted : is_admitted (past_of middle) id ≡ true
   pub reading : stop ≡ None → GoesOn parse after c.reader
   pub stop_is : stop ≡ stop_in after
   pub id_is : c.id ≡ id
@@ -110,8 +128,15 @@ module _ (clock : Option ℕ) (id : ℕ) (c : Connection) (start now : Standing)
         (up_to_quit (parse (fed c.reader piece)).items) (requests_of s.heard ++ runs_in r.turns)
         (up_to_quit (requests_of (s.heard ++ piece))) refl
         (until_further s.heard piece c.reader s.reading s.sound) r.runs;
-    cause_is = subst (λ n. IsEnd cause n last) s.id_is r.cause_is;
+    cause_is = subst (λ n. IsEnd cause n r.turns last) s.id_is r.cause_is;
   }
+
+  idle_admitted : (h : Heard) (next : Place) → is_admitted (past_of now.place) id ≡ true
+      → Idles clock h now.place next → is_admitted (past_of next) id ≡ true
+  idle_admitted h next on idles =
+      let p = idles_pass clock id now.place next h idles in
+      begins_lift (λ past. is_admitted past id ≡ true) (admitted_more id) (past_of now.place)
+      (past_of next) (grows_past now.place next p.turns p.grows) on
 
   -- the link was read, and what came ran
   pub hears_halfway : (most : ℕ) (h : Heard) (after : Connection) (next : Standing)
@@ -129,6 +154,7 @@ module _ (clock : Option ℕ) (id : ℕ) (c : Connection) (start now : Standing)
         middle = next.place;
         hears = Waited refl took kept counted (idle_ticks clock h now.place next.place idles);
         begins = idle_begins clock id h now.place next.place idles;
+        admitted = idle_admitted h next.place admitted idles;
         reading = λ e. subst (λ (k : Connection). GoesOn parse s.heard k.reader) (sym same)
             s.reading;
         stop_is = none ∙ sym s.sound;
@@ -151,6 +177,7 @@ module _ (clock : Option ℕ) (id : ℕ) (c : Connection) (start now : Standing)
         middle = r.middle;
         hears = Came piece refl (omega (arith, short, le)) took kept counts whole;
         begins = (r.runs.grows.within, there, t);
+        admitted = there;
         reading = read_further s.heard piece c after behind.stop s.reading r.runs.stop_is
             r.runs.reader;
         stop_is = piece_stop piece behind.stop after r.middle r.runs;
@@ -190,7 +217,7 @@ module _ (clock : Option ℕ) (id : ℕ) (c : Connection) (start now : Standing)
         sound = s.sound;
         after = s.heard ++ piece;
         last = Refused piece refl (omega (arith, short, le)) took kept counts some;
-        told = λ f e. inr (inr some.cause_is);
+        told = λ f e. inr (inr (end_any cause id some.turns next.place some.cause_is));
       }
 
 module _ (clock : Option ℕ) (id : ℕ) (stop : Option Stop) (front : Front) (c : Connection)
@@ -238,6 +265,26 @@ module _ (clock : Option ℕ) (id : ℕ) (stop : Option Stop) (front : Front) (c
       told = λ g same. inl (ap ended_at (same_Some e g (sym is ∙ (h.stop_is ∙ same))));
     }
 
+    told_part : (cause : Ended) (d : DeliversPart cause id now.contents next.contents h.middle
+        next.place) → (cause ≡ ended.LinkFault) ⊎ IsEnd cause id [] next.place
+    told_part cause d =
+        elim d.cause_is [
+          | inl failed ↦ inl failed
+          | inr t ↦ inr (subst (λ z. IsEnd z id [] next.place) (sym t.is)
+              (by_case t.refusal t.cause_is))
+        ]
+      where
+        by_case : (e : Refusal) → IsCause gives_on id e next.place
+            → IsEnd (ended_by e) id [] next.place
+        by_case refusal.Dropped off =
+            had_ended_ungiven id [] next.place
+            (begins_lift (λ past. is_admitted past id ≡ true) (admitted_more id)
+            (past_of h.middle) (past_of next.place)
+            (grows_past h.middle next.place d.turns d.grows) h.admitted) off refl refl
+        by_case refusal.NoMemory off = tt
+        by_case refusal.Worn off = off
+        by_case refusal.Stopped off = absurd off
+
     pub undelivered_last : (cause : Ended)
         → DeliversPart cause c.id now.contents next.contents h.middle next.place
         → DeliveryCounts (Err cause) now.counts next.counts → Serves clock cause id start next
@@ -251,7 +298,7 @@ module _ (clock : Option ℕ) (id : ℕ) (stop : Option Stop) (front : Front) (c
           sound = h.sound;
           after = h.after;
           last = Unwritten (record now { place = h.middle }) h.hears part counts kept;
-          told = λ f e. inr part.cause_is;
+          told = λ f e. inr (told_part cause part);
         }
 
 -- of the same connection

@@ -1,8 +1,8 @@
 -- The requests that a connection has read are read as calls, and run.
 use Rattle.std.proofs.Common.{◌≡◌, ◌<◌, ℕ, List, [], ◌∷◌, ◌++◌, length, max, Some, refl, sym}
 use Rattle.std.proofs.Common.{ap, subst, ◌∙◌, arith, append_assoc, take, append-nil, drop, Ok}
-use Rattle.std.proofs.Common.{None, true, false}
-use Rattle.std.specs.Prelude.{Option, IfSome}
+use Rattle.std.proofs.Common.{None, true, false, Bool, zero, suc, ◌≤◌, ◌+◌, inl, inr}
+use Rattle.std.specs.Prelude.{Option, IfSome, ◌⊎◌}
 use Rattle.std.specs.List.{All}
 use Rattle.std.proofs.lemmas.List.{take-append-drop, length-take-le}
 use Rattle.std.proofs.lemmas.List.Elements.{All-nil, All-cons, All-append}
@@ -19,22 +19,27 @@ use Rattle.resp_stream.proofs.Parse.{parse_whole, parse_bad, parse_more, shorter
 use Rattle.serial_model.specs.declared.history.Entry.TheVariants as entry
 use Rattle.serial_model.specs.declared.history.BookCall.{BookCall}
 use Rattle.serial_model.specs.declared.history.BookCall.TheVariants.{Admit, Run, Tick, Take, Close}
-use Rattle.serial_model.specs.History.{is_quit, latest}
-use Rattle.seat_turns.specs.Own.{IsWithin, Grows}
+use Rattle.serial_model.specs.History.{gives_on, is_admitted, is_quit, latest, runs_on}
+use Rattle.seat_turns.specs.Own.{IsWithin, Grows, past_of}
 use Rattle.shared_book.specs.Turns.{Place, Turn, IsCause, limits_of}
 use Rattle.shared_book.specs.Batches.{IsRunAt, requests_in, RunsEach, RunsAndTakes, RunsFirst}
 use Rattle.resp_value.specs.declared.octets.Octets.{Octets}
 use Rattle.shared_book.specs.declared.turns.Refusal.{Refusal}
-use Rattle.seat_turns.proofs.Growing.{grows_none, grows_then, order_append}
+use Rattle.shared_book.specs.declared.turns.Refusal.TheVariants as refusal
+use Rattle.shared_book.proofs.Histories.{admitted_more, begins_lift}
+use Rattle.seat_turns.proofs.Growing.{grows_none, grows_past, grows_then, order_append}
 use Rattle.conn_worker.specs.declared.report.Ended.TheVariants.{NoMemory}
 use Rattle.conn_worker.specs.declared.connection.Connection.{Connection}
 use Rattle.conn_worker.specs.declared.connection.Stop.{Stop}
 use Rattle.conn_worker.specs.declared.connection.Stop.TheVariants as stop
+use Rattle.conn_worker.specs.Elsewhere.{HasQuit}
 use Rattle.conn_worker.specs.Quits.{stop_behind, up_to_quit}
 use Rattle.conn_worker.specs.Visits.{IsWork, IsEnd, runs_in, gave, ended_by, ReadsAll, RunsPart}
 use Rattle.conn_worker.specs.Visits.{HearsAll, run_in, stop_of_reader}
-use Rattle.conn_worker.proofs.Stopping.{NoQuits, Requests, no_quits_more, stop_joined, stop_quit}
-use Rattle.conn_worker.proofs.Stopping.{until_joined, until_quit}
+use Rattle.conn_worker.proofs.Leaving.{had_ended_off, had_ended_ungiven, has_quit_now, has_quit_on}
+use Rattle.conn_worker.proofs.Stopping.{NoQuits, Requests, any_left, any_quit, front_none, none_in}
+use Rattle.conn_worker.proofs.Stopping.{no_quits_more, none_quit, stop_joined, stop_quit}
+use Rattle.conn_worker.proofs.Stopping.{stopped_quits, unclosed_in, until_joined, until_quit}
 
 -- what was read so far, and what is left of it
 pub record Reading (before now : Connection) (calls : List BookCall) : Type 0 where
@@ -174,6 +179,7 @@ record Ran (clock : Option ℕ) (id : ℕ) (ws : List (List (List ℕ))) (old ne
     pub work : All (IsWork id clock) turns
     pub gave_none : gave (limits_of old) turns ≡ []
     pub runs : runs_in turns ≡ ws
+    pub quits : any_quit ws ≡ true → HasQuit id new
 
 each_ran : (clock : Option ℕ) (id now : ℕ) → IfSome clock (λ m. now ≡ m)
     → (ws : List (List (List ℕ))) (old new : Place) → RunsEach id now ws old new
@@ -184,6 +190,7 @@ each_ran clock id now is [] old new h = record {
   work = All-nil (IsWork id clock);
   gave_none = refl;
   runs = refl;
+  quits = λ any. absurd (let no : ⊥ = cc in no);
 }
 each_ran clock id now is (w ∷ ws) old new (mid, run, rest) =
     let r = each_ran clock id now is ws mid new rest in
@@ -195,12 +202,56 @@ each_ran clock id now is (w ∷ ws) old new (mid, run, rest) =
           (grind arith);
       gave_none = grind (arith, order_append);
       runs = order_append run_in r.turns (t ∷ []) ∙ ap (λ z. w ∷ z) r.runs;
+      quits = λ any. elim (any_left (is_quit w) (any_quit ws) any) [
+        | inl quit ↦ has_quit_on id mid new r.grows.setup (grows_past mid new r.turns r.grows)
+            (has_quit_now id w now old mid run quit)
+        | inr more ↦ r.quits more
+      ];
     }
+
+-- what a refusal shows behind the first so many of these requests, of which all but the last are no
+-- QUIT
+part_ends : (id : ℕ) (clock : Option ℕ) (e : Refusal) (ws : Requests) (ts : List Turn)
+    (number : ℕ) (k : Place) → is_admitted (past_of k) id ≡ true → All (IsWork id clock) ts
+    → number ≤ length ws → runs_in ts ≡ take number ws
+    → (number < length ws → NoQuits (take number ws))
+    → (any_quit (take number ws) ≡ true → HasQuit id k) → IsCause runs_on id e k
+    → (number ≡ length ws → IsCause gives_on id e k) → IsEnd (ended_by e) id ts k
+part_ends id clock refusal.Dropped ws ts number k there work le is front quits run give =
+    let closed = unclosed_in id id clock ts work in
+    elim (cases_le number (length ws) le) [
+      | inl less ↦ had_ended_off id ts k there run closed
+          (none_in id ts (subst NoQuits (sym is) (front less)))
+      | inr all ↦ by_quit (any_quit (take number ws))
+          (λ any. absurd (not_both _ (quits any).gives (give all)))
+          (λ none. had_ended_ungiven id ts k there (give all) closed
+          (none_in id ts (subst NoQuits (sym is) (none_quit (take number ws) none))))
+    ]
+  where
+    cases_le : (a b : ℕ) → a ≤ b → (a < b) ⊎ (a ≡ b)
+    cases_le zero zero le = inr refl
+    cases_le zero (suc b) le = inl (omega arith)
+    cases_le (suc a) zero le = absurd (omega (arith, le))
+    cases_le (suc a) (suc b) le = elim (cases_le a b (omega (arith, le))) [
+      | inl lt ↦ inl (omega (arith, lt))
+      | inr is ↦ inr (ap suc is)
+    ]
+
+    not_both : (b : Bool) → b ≡ true → b ≡ false → ⊥
+    not_both b e f = let no : true ≡ false = sym e ∙ f in cc
+
+    by_quit : {X : Type 0} (b : Bool) → (b ≡ true → X) → (b ≡ false → X) → X
+    by_quit true f g = f refl
+    by_quit false f g = g refl
+part_ends id clock refusal.NoMemory ws ts number k there work le is front quits run give = tt
+part_ends id clock refusal.Worn ws ts number k there work le is front quits run give = run
+part_ends id clock refusal.Stopped ws ts number k there work le is front quits run give = absurd run
 
 -- what was read of `before`, as these calls, was run so far
 module _ (clock : Option ℕ) (now : ℕ) (before read : Connection) (calls : List BookCall)
     (count : ℕ) (old new : Place) (is : IfSome clock (λ m. now ≡ m))
-    (same : (read.id ≡ before.id) × (read.requests ≡ before.requests)) where
+    (same : (read.id ≡ before.id) × (read.requests ≡ before.requests))
+    (on : is_admitted (past_of old) before.id ≡ true) where
   pub all_ran : (stop : Option Stop) (front : Option Octets)
       → RunsAndTakes read.id now read.requests (requests_in calls) count front old new
       → ReadsAll stop before read calls
@@ -209,7 +260,26 @@ module _ (clock : Option ℕ) (now : ℕ) (before read : Connection) (calls : Li
   all_ran stop front told all =
       let t : RunsAndTakes before.id now before.requests (requests_in calls) count front old new
       = grind arith in
-      grind (arith, each_ran)
+      let ran = each_ran clock before.id now is (requests_in calls) old t.middle t.each in
+      record {
+        middle = t.middle;
+        runs = record {
+          turns = ran.turns;
+          grows = ran.grows;
+          work = ran.work;
+          gave_none = ran.gave_none;
+          id = same.0;
+          requests = t.counted ∙ ap (λ z. before.requests + length z) (sym ran.runs);
+          counted = t.fits;
+          runs = ran.runs ∙ all.items;
+          stop_is = all.stop_is;
+          reader = all.reader;
+          quits = λ quit. ran.quits (ap any_quit all.items
+              ∙ stopped_quits (parse before.reader).items (parse before.reader).fault
+              (sym all.stop_is ∙ quit));
+        };
+        takes = t.takes;
+      }
 
   pub part_ran : (stop : Option Stop) (e : Refusal)
       → RunsFirst read.id now read.requests (requests_in calls) count e old new
@@ -222,6 +292,9 @@ module _ (clock : Option ℕ) (now : ℕ) (before read : Connection) (calls : Li
       let ran = each_ran clock before.id now is some old new t.each in
       let long = ap length ran.runs in
       let front = length-take-le t.number (requests_in calls) t.within in
+      let there = begins_lift (λ past. is_admitted past before.id ≡ true)
+      (admitted_more before.id) (past_of old) (past_of new)
+      (grows_past old new ran.turns ran.grows) on in
       record {
         turns = ran.turns;
         grows = ran.grows;
@@ -233,11 +306,13 @@ module _ (clock : Option ℕ) (now : ℕ) (before read : Connection) (calls : Li
           drop t.number (requests_in calls),
           grind (arith, take-append-drop),
         );
-        cause_is = cause_end e t.cause_is;
+        cause_is = part_ends before.id clock e (requests_in calls) ran.turns t.number new there
+            ran.work t.within ran.runs
+            (λ less. subst (λ ws. NoQuits (take t.number ws)) (sym all.items)
+            (front_none (parse before.reader).items t.number
+            (subst (λ ws. t.number < length ws) all.items less)))
+            ran.quits t.cause_is t.take_is;
       }
-    where
-      cause_end : (e : Refusal) → IsCause e before.id new → IsEnd (ended_by e) before.id new
-      cause_end e h = grind arith
 
 -- memory ran out before anything ran
 pub part_none : (clock : Option ℕ) (before after : Connection) (k : Place) → IsWithin k

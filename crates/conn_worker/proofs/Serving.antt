@@ -1,16 +1,19 @@
 -- A connection is served round by round: its link is read, its requests run, and what waits for it
 -- is written.
 use Rattle.std.proofs.Common.{◌≡◌, ◌≤◌, ℕ, List, [], ◌++◌, length, true, Some, None, refl, sym, ap}
-use Rattle.std.proofs.Common.{subst, ◌∙◌, arith, append_assoc, append-nil, length-append}
-use Rattle.std.specs.Prelude.{Option, Err, ◌⊎◌}
+use Rattle.std.proofs.Common.{subst, ◌∙◌, arith, append_assoc, append-nil, length-append, inl, inr}
+use Rattle.std.specs.Prelude.{Option, Err, ◌⊎◌, Bool, false}
 use Rattle.std.specs.List.{All}
 use Rattle.std.specs.Io.KnownBytes.{Appends, Consumes, Keeps}
 use Rattle.std.proofs.lemmas.List.Elements.{All-append}
 use Rattle.resp_stream.specs.Parse.{parse, requests_of}
 use Rattle.resp_stream.specs.Stream.{fed}
-use Rattle.serial_model.specs.History.{is_admitted, reads_on, stream, taken}
+use Rattle.serial_model.specs.History.{gives_on, is_admitted, reads_on, stream, taken}
 use Rattle.seat_turns.specs.Own.{past_of, IsWithin, Grows}
-use Rattle.shared_book.specs.Turns.{Place, Turn, limits_in, limits_of, Admits, Takes}
+use Rattle.shared_book.specs.Turns.{Place, Turn, limits_in, limits_of, Admits, IsCause}
+use Rattle.shared_book.specs.Turns.{IsServerCause, Takes}
+use Rattle.shared_book.specs.declared.turns.Refusal.{Refusal}
+use Rattle.shared_book.specs.declared.turns.Refusal.TheVariants as refusal
 use Rattle.seat_turns.proofs.Growing.{grows_none, grows_then, grows_past, grows_stands}
 use Rattle.seat_turns.proofs.Growing.{order_append}
 use Rattle.shared_book.proofs.Histories.{begins_lift, admitted_more, admitted_now}
@@ -19,6 +22,7 @@ use Rattle.conn_worker.specs.declared.report.Ended.{Ended}
 use Rattle.conn_worker.specs.declared.report.Ended.TheVariants as ended
 use Rattle.conn_worker.specs.declared.connection.Stop.{Stop}
 use Rattle.conn_worker.specs.declared.connection.Stop.TheVariants.{Fault, Quit}
+use Rattle.conn_worker.specs.Elsewhere.{HasQuit, closes_in, quits_in}
 use Rattle.conn_worker.specs.Quits.{ended_at, fault_in, has_quit, stop_in, up_to_quit}
 use Rattle.conn_worker.specs.declared.connection.Connection.{Connection}
 use Rattle.conn_worker.specs.Visits.{IsWork, IsEnd, IsTaken, IsWhole, IsShown}
@@ -26,6 +30,7 @@ use Rattle.conn_worker.specs.Visits.{runs_in, gave, fed_connection, RunsAll, Run
 use Rattle.conn_worker.specs.Visits.{DeliversPart, EndCounts, Hears, HearsPart, Works, Idle, Piece}
 use Rattle.conn_worker.specs.Visits.{Nothing, Unticked, Part, stop_of, front_of, Begins, HearsAll}
 use Rattle.conn_worker.specs.Visits.{DeliveryCounts, LinkEnds, run_in, standing, stop_of_reader}
+use Rattle.conn_worker.specs.Visits.{EndsService, TakeEnds, ended_by}
 use Rattle.resp_value.specs.declared.octets.Octets.{Octets}
 use Rattle.conn_worker.specs.declared.connection.Behind.{Behind}
 use Rattle.conn_worker.specs.declared.deliver.Front.{Front}
@@ -36,8 +41,9 @@ use Rattle.edge_links.proofs.Bytes.{consumes_more, consumes_kept}
 use Rattle.resp_stream.proofs.Onward.{GoesOn}
 use Rattle.conn_worker.proofs.Turning.{all_taken, no_runs}
 use Rattle.conn_worker.proofs.Ticking.{Passes, idles_pass}
-use Rattle.conn_worker.proofs.Stopping.{NoQuits, any_quit, none_stopped, quit_begins, ran_quit}
-use Rattle.conn_worker.proofs.Stopping.{stopped_quits, until_all}
+use Rattle.conn_worker.proofs.Leaving.{had_ended_behind, had_ended_ungiven, has_quit_on}
+use Rattle.conn_worker.proofs.Stopping.{NoQuits, any_quit, none_in, none_stopped, quit_begins}
+use Rattle.conn_worker.proofs.Stopping.{ran_quit, stopped_quits, unclosed_in, unstopped, until_all}
 use Rattle.conn_worker.proofs.Further.{prefix_behind, read_further, stop_further, until_further}
 
 -- all that was read ran, and all that this gave was written
@@ -73,6 +79,7 @@ pub record Waiting (clock : Option ℕ) (id : ℕ) (stop : Option Stop) (c : Con
   pub reading : stop ≡ None → GoesOn parse heard c.reader
   pub stop_is : stop ≡ stop_in heard
   pub runs : runs_in turns ≡ up_to_quit (requests_of heard)
+  pub quits : stop ≡ Some Quit → HasQuit id new
   pub wrote : Appends link0 link1 (gave (limits_of old) turns)
   pub admitted : is_admitted (past_of new) id ≡ true
 
@@ -85,6 +92,28 @@ pub record Begun (clock : Option ℕ) (id : ℕ) (stop : Option Stop) (front : F
   pub lock : new.lock ≡ old.lock
   pub within : IsWithin new
   pub admitted : is_admitted (past_of new) id ≡ true
+
+no_stop : (o : Option Stop) (e : Stop) → o ≡ None → o ≡ Some e → ⊥
+no_stop o e none is = let no : None ≡ Some e = sym none ∙ is in cc
+
+not_both : (b : Bool) → b ≡ true → b ≡ false → ⊥
+not_both b e f = let no : true ≡ false = sym e ∙ f in cc
+
+-- where a turn was refused, or a write failed, the end was not read
+end_broken : (cause : Ended) (id : ℕ) (ts : List Turn) (k : Place) → IsEnd cause id ts k
+    → IsWhole cause → ⊥
+end_broken cause id ts k e w = grind arith
+
+take_broken : (e : Refusal) → IsWhole (ended_by e) → ⊥
+take_broken e w = grind arith
+
+part_broken : (cause : Ended) (id : ℕ) (link0 link1 : Option (List ℕ)) (old new : Place)
+    → DeliversPart cause id link0 link1 old new → IsWhole cause → ⊥
+part_broken cause id link0 link1 old new d w =
+    elim d.cause_is [
+      | inl failed ↦ subst IsWhole failed w
+      | inr t ↦ take_broken t.refusal (subst IsWhole t.is w)
+    ]
 
 takes_grows : (id : ℕ) (front : Option Octets) (k l : Place) → Takes id front k l
     → (ts : List Turn) × Grows k l ts
@@ -145,6 +174,7 @@ module _ (clock : Option ℕ) (id : ℕ) (c : Connection) (left0 left1 link0 lin
         runs = order_append run_in r.turns s.turns
             ∙ ap (λ z. z ++ runs_in r.turns) s.runs
             ∙ ap (λ z. requests_of s.heard ++ z) r.runs ∙ sym (until_more piece);
+        quits = λ quit. subst (λ n. HasQuit n last) s.id_is (r.quits quit);
         wrote = grind (arith, appends_as, gave_more, appends_kept);
         admitted = admitted_then last r.turns r.grows;
       }
@@ -170,6 +200,7 @@ module _ (clock : Option ℕ) (id : ℕ) (c : Connection) (left0 left1 link0 lin
         reading = λ h. s.reading;
         stop_is = none ∙ sym s.sound;
         runs = runs ∙ s.runs ∙ sym (until_all (requests_of s.heard) heard_none.0);
+        quits = λ quit. absurd (no_stop stop Quit none quit);
         wrote = grind (arith, appends_as, gave_more, appends_kept);
         admitted = admitted_then last p.turns p.grows;
       }
@@ -214,6 +245,25 @@ module _ (clock : Option ℕ) (id : ℕ) (c : Connection) (left0 left1 link0 lin
   until_heard : runs_in s.turns ≡ up_to_quit (requests_of s.heard)
   until_heard = s.runs ∙ sym (until_all (requests_of s.heard) heard_none.0)
 
+  -- no QUIT and no Close is among its turns
+  quits_none : quits_in id s.turns ≡ 0
+  quits_none = none_in id s.turns (subst NoQuits (sym s.runs) heard_none.0)
+
+  closes_none : closes_in id s.turns ≡ 0
+  closes_none = unclosed_in id id clock s.turns s.work
+
+  end_shown : (cause : Ended) (heard : List ℕ) (ts : List Turn) (last : Place)
+      → IsEnd cause id ts last → IsShown cause id heard (ts ++ s.turns) last
+  end_shown ended.PeerEnd heard ts last e = absurd e
+  end_shown ended.Quit heard ts last e = absurd e
+  end_shown ended.Dropped heard ts last e =
+      had_ended_behind id ts s.turns last closes_none quits_none e
+  end_shown (ended.BadRequest f) heard ts last e = absurd e
+  end_shown ended.LinkFault heard ts last e = absurd e
+  end_shown ended.NoMemory heard ts last e = tt
+  end_shown ended.Worn heard ts last e = e
+  end_shown ended.Stopped heard ts last e = absurd e
+
   part_works : (piece : List ℕ) (cause : Ended) (after : Connection) (last : Place)
       (left2 link2 : Option (List ℕ)) → Consumes left1 left2 piece → Keeps link1 link2
       → RunsPart clock cause (fed_connection c piece) after new last
@@ -223,7 +273,8 @@ module _ (clock : Option ℕ) (id : ℕ) (c : Connection) (left0 left1 link0 lin
       let both = length-append (runs_in s.turns) (runs_in r.turns) in
       let front : runs_in (r.turns ++ s.turns) ≡ requests_of s.heard ++ runs_in r.turns
       = order_append run_in r.turns s.turns ∙ ap (λ z. z ++ runs_in r.turns) s.runs in
-      let is : IsEnd cause id last = subst (λ n. IsEnd cause n last) s.id_is r.cause_is in
+      let is : IsEnd cause id r.turns last
+      = subst (λ n. IsEnd cause n r.turns last) s.id_is r.cause_is in
       record {
         turns = r.turns ++ s.turns;
         grows = grows_then old new last s.turns r.turns s.grows r.grows;
@@ -238,15 +289,15 @@ module _ (clock : Option ℕ) (id : ℕ) (c : Connection) (left0 left1 link0 lin
             (up_to_quit (parse (fed c.reader piece)).items) (runs_in (r.turns ++ s.turns))
             (up_to_quit (requests_of (s.heard ++ piece))) front (until_more piece) r.runs;
         front = ([], append-nil (gave (limits_of old) (r.turns ++ s.turns)));
-        all_ran = λ w. absurd (grind arith);
+        all_ran = λ w. absurd (end_broken cause id r.turns last is w);
         all_wrote = λ w. refl;
-        all_taken = λ w. absurd (grind arith);
-        shown = grind arith;
+        all_taken = λ w. absurd (end_broken cause id r.turns last is w);
+        shown = end_shown cause (s.heard ++ piece) r.turns last is;
       }
 
   -- nothing more was read, and no turn was added
   rest_works : (cause : Ended) (last : Place) (left2 link2 : Option (List ℕ)) → Grows new last []
-      → IsShown cause id s.heard last
+      → IsShown cause id s.heard s.turns last
       → (IsWhole cause → reads_on (limits_of old) (past_of last) id ≡ true
       → All (IsTaken (limits_of old) id (taken (limits_of old) id (past_of last))) s.turns)
       → Consumes left1 left2 [] → Keeps link1 link2
@@ -269,7 +320,8 @@ module _ (clock : Option ℕ) (id : ℕ) (c : Connection) (left0 left1 link0 lin
     shown = shown;
   }
 
-  ends_shown : (cause : Ended) (k l : Counts) → LinkEnds cause k l → IsShown cause id s.heard new
+  ends_shown : (cause : Ended) (k l : Counts) → LinkEnds cause k l
+      → IsShown cause id s.heard s.turns new
   ends_shown ended.PeerEnd k l e = s.sound
   ends_shown ended.Quit k l e = absurd e
   ends_shown ended.Dropped k l e = absurd e
@@ -278,6 +330,20 @@ module _ (clock : Option ℕ) (id : ℕ) (c : Connection) (left0 left1 link0 lin
   ends_shown ended.NoMemory k l e = absurd e
   ends_shown ended.Worn k l e = absurd e
   ends_shown ended.Stopped k l e = absurd e
+
+  -- nothing came, and the Tick was refused
+  unticked_shown : (e : Refusal) (last : Place) → EndsService e → IsServerCause e last
+      → IsShown (ended_by e) id s.heard s.turns last
+  unticked_shown refusal.Dropped last ends h = absurd ends
+  unticked_shown refusal.NoMemory last ends h = absurd ends
+  unticked_shown refusal.Worn last ends h = h
+  unticked_shown refusal.Stopped last ends h = (s.sound, h)
+
+  unticked_broken : (e : Refusal) → EndsService e → IsWhole (ended_by e) → ⊥
+  unticked_broken refusal.Dropped ends w = absurd ends
+  unticked_broken refusal.NoMemory ends w = absurd ends
+  unticked_broken refusal.Worn ends w = w
+  unticked_broken refusal.Stopped ends w = w
 
   pub hears_stops : (most : ℕ) (cause : Ended) (after : Connection) (last : Place)
       (left2 link2 : Option (List ℕ)) (k l : Counts)
@@ -292,7 +358,11 @@ module _ (clock : Option ℕ) (id : ℕ) (c : Connection) (left0 left1 link0 lin
       (rest_works cause new left2 link2 (grows_none new s.grows.within) (ends_shown cause k l ends)
       (λ w. s.was_taken) took kept))
   hears_stops most cause after last left2 link2 k l (Unticked e ends is r same took counted) kept =
-      grind (arith, rest_works)
+      subst (λ z. Works clock z id after.requests left0 left2 link0 link2 old last) (sym is)
+      (subst (λ (x : Connection). Works clock (ended_by e) id x.requests left0 left2 link0 link2 old
+      last) (sym same)
+      (rest_works (ended_by e) last left2 link2 r.grows (unticked_shown e last ends r.cause_is)
+      (λ w. absurd (unticked_broken e ends w)) took kept))
   hears_stops most cause after last left2 link2 k l (Part piece short took counts r) kept =
       part_works piece cause after last left2 link2 took kept r
 
@@ -371,9 +441,14 @@ module _ (clock : Option ℕ) (id : ℕ) (stop : Option Stop) (c : Connection)
         (ran_quit clock id (past_of new) s.turns s.work (grows_stands old new s.turns s.grows)
         (ap any_quit s.runs ∙ stopped_quits (requests_of s.heard) (fault_in s.heard) is))
 
-    stop_shown : (e : Stop) → stop_in s.heard ≡ Some e → IsShown (ended_at e) id s.heard last
-    stop_shown (Fault f) is = is
-    stop_shown Quit is = (is, quit_stands is)
+    stop_shown : (e : Stop) → stop ≡ Some e
+        → IsShown (ended_at e) id s.heard (d.turns ++ s.turns) last
+    stop_shown (Fault f) is = sym s.stop_is ∙ is
+    stop_shown Quit is = (
+      sym s.stop_is ∙ is,
+      quit_stands (sym s.stop_is ∙ is),
+      has_quit_on id new last d.grows.setup (grows_past new last d.turns d.grows) (s.quits is),
+    )
 
     pub delivered_ends : (e : Stop) → stop ≡ Some e
         → Works clock (ended_at e) id c.requests left0 left2 link0 link2 old last
@@ -394,8 +469,40 @@ module _ (clock : Option ℕ) (id : ℕ) (stop : Option Stop) (c : Connection)
           all_ran = λ w. runs ∙ s.runs;
           all_wrote = λ w. refl;
           all_taken = λ w. all_are_taken;
-          shown = stop_shown e (sym s.stop_is ∙ is);
+          shown = stop_shown e is;
         }
+
+  -- no Close is among the turns of a delivery, nor a QUIT, where none was read
+  no_quits : (stop ≡ Some Quit → ⊥) → NoQuits (runs_in s.turns)
+  no_quits not =
+      subst NoQuits (sym s.runs)
+      (unstopped (requests_of s.heard) (fault_in s.heard) (λ is. not (s.stop_is ∙ is)))
+
+  part_shown : (cause : Ended) (d : DeliversPart cause id link1 link2 new last)
+      → IsShown cause id s.heard (d.turns ++ s.turns) last
+  part_shown cause d =
+      elim d.cause_is [
+        | inl failed ↦ subst (λ z. IsShown z id s.heard (d.turns ++ s.turns) last) (sym failed) tt
+        | inr t ↦ subst (λ z. IsShown z id s.heard (d.turns ++ s.turns) last) (sym t.is)
+            (by_case t.refusal t.cause_is)
+      ]
+    where
+      by_case : (e : Refusal) → IsCause gives_on id e last
+          → IsShown (ended_by e) id s.heard (d.turns ++ s.turns) last
+      by_case refusal.Dropped h =
+          let there = begins_lift (λ past. is_admitted past id ≡ true) (admitted_more id)
+          (past_of new) (past_of last) (grows_past new last d.turns d.grows) s.admitted in
+          let none = no_quits (λ is. not_both _
+          (has_quit_on id new last d.grows.setup (grows_past new last d.turns d.grows)
+          (s.quits is)).gives h) in
+          had_ended_ungiven id (d.turns ++ s.turns) last there h
+          (unclosed_in id id clock (d.turns ++ s.turns)
+          (all_work d.turns d.grows d.work d.runs_none))
+          (none_in id (d.turns ++ s.turns)
+          (subst NoQuits (sym (all_runs d.turns d.grows d.work d.runs_none)) none))
+      by_case refusal.NoMemory h = tt
+      by_case refusal.Worn h = h
+      by_case refusal.Stopped h = absurd h
 
   pub delivery_stops : (cause : Ended) → DeliversPart cause id link1 link2 new last
       → Works clock cause id c.requests left0 left2 link0 link2 old last
@@ -414,9 +521,10 @@ module _ (clock : Option ℕ) (id : ℕ) (stop : Option Stop) (c : Connection)
         runs = ([], append-nil (runs_in all) ∙ (runs ∙ s.runs));
         front = grind (arith, append_assoc, order_append, limits_kept);
         all_ran = λ w. runs ∙ s.runs;
-        all_wrote = λ w. absurd (grind arith);
-        all_taken = λ w. absurd (grind arith);
-        shown = grind arith;
+        all_wrote = λ link.
+            let rest = d.all_wrote link in grind (arith, order_append, limits_kept);
+        all_taken = λ w. absurd (part_broken cause id link1 link2 new last d w);
+        shown = part_shown cause d;
       }
 
 -- nor is one behind which nothing is read
@@ -434,7 +542,7 @@ part_counts cause id link0 link1 old new a b d h = by_case cause d.cause_is h
     same : b ≡ a → (b.faults ≡ a.faults) × (b.ends ≡ a.ends)
     same is = (ap (λ (k : Counts). k.faults) is, ap (λ (k : Counts). k.ends) is)
 
-    by_case : (cause : Ended) → (cause ≡ ended.LinkFault) ⊎ IsEnd cause id new
+    by_case : (cause : Ended) → (cause ≡ ended.LinkFault) ⊎ TakeEnds cause id new
         → DeliveryCounts (Err cause) a b → EndCounts cause a b
     by_case cause e h = grind (arith, same)
 

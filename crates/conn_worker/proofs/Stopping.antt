@@ -1,6 +1,7 @@
 -- What runs of requests up to a QUIT, and that a history has a QUIT that ran.
 use Rattle.std.proofs.Common.{◌≡◌, ◌∙◌, ◌⊎◌, refl, sym, ap, ℕ, List, [], ◌∷◌, ◌++◌, Bool, true}
-use Rattle.std.proofs.Common.{false, Some, None, append-nil, eq-eqb, inl, inr}
+use Rattle.std.proofs.Common.{false, Some, None, append-nil, eq-eqb, inl, inr, ◌<◌, zero, suc}
+use Rattle.std.proofs.Common.{arith, cond, length, take}
 use Rattle.std.specs.Prelude.{if◌then◌else◌, Option, ◌==◌, ◌&&◌, ◌||◌, ⊤}
 use Rattle.std.specs.List.{All}
 use Rattle.std.proofs.lemmas.List.Elements.{All-head, All-tail}
@@ -13,6 +14,7 @@ use Rattle.shared_book.specs.Turns.{Turn}
 use Rattle.shared_book.proofs.Histories.{begins_lift}
 use Rattle.conn_worker.specs.declared.connection.Stop.{Stop}
 use Rattle.conn_worker.specs.declared.connection.Stop.TheVariants.{Quit}
+use Rattle.conn_worker.specs.Elsewhere.{closes, closes_in, quits, quits_in}
 use Rattle.conn_worker.specs.Quits.{up_to_quit, stop_behind, has_quit}
 use Rattle.conn_worker.specs.Visits.{IsWork, run_in, runs_in}
 
@@ -110,7 +112,43 @@ stopped_quits [] (Some f) e = absurd (let no : ⊥ = cc in no)
 stopped_quits (w ∷ ws) f e =
     head_quits (is_quit w) ws (stop_behind ws f) (stopped_quits ws f) e
 
-any_left : (b c : Bool) → (b || c) ≡ true → (b ≡ true) ⊎ (c ≡ true)
+or_off : (b c : Bool) → (b || c) ≡ false → (b ≡ false) × (c ≡ false)
+or_off true c e = absurd (let no : ⊥ = cc in no)
+or_off false c e = (refl, e)
+
+pub none_quit : (ws : Requests) → any_quit ws ≡ false → NoQuits ws
+none_quit [] e = tt
+none_quit (w ∷ ws) e =
+    let h = or_off (is_quit w) (any_quit ws) e in (h.0, none_quit ws h.1)
+
+-- no QUIT ran, where none stopped the reader
+pub unstopped : (ws : Requests) (f : Option StreamFault)
+    → (stop_behind ws f ≡ Some Quit → ⊥) → NoQuits (up_to_quit ws)
+unstopped [] f not = tt
+unstopped (w ∷ ws) f not = unstopped_by (is_quit w) w ws f refl not (unstopped ws f)
+  where
+    unstopped_by : (b : Bool) (w : List (List ℕ)) (ws : Requests) (f : Option StreamFault)
+        → is_quit w ≡ b → ((if b then Some Quit else stop_behind ws f) ≡ Some Quit → ⊥)
+        → ((stop_behind ws f ≡ Some Quit → ⊥) → NoQuits (up_to_quit ws))
+        → NoQuits (w ∷ (if b then [] else up_to_quit ws))
+    unstopped_by true w ws f e not rest = absurd (not refl)
+    unstopped_by false w ws f e not rest = (e, rest not)
+
+-- of what runs, all but the last is no QUIT
+pub front_none : (ws : Requests) (n : ℕ) → n < length (up_to_quit ws)
+    → NoQuits (take n (up_to_quit ws))
+front_none [] n lt = absurd (omega (arith, lt))
+front_none (w ∷ ws) zero lt = tt
+front_none (w ∷ ws) (suc n) lt = front_by (is_quit w) w ws n refl lt (front_none ws n)
+  where
+    front_by : (b : Bool) (w : List (List ℕ)) (ws : Requests) (n : ℕ) → is_quit w ≡ b
+        → suc n < length (w ∷ (if b then [] else up_to_quit ws))
+        → (n < length (up_to_quit ws) → NoQuits (take n (up_to_quit ws)))
+        → NoQuits (take (suc n) (w ∷ (if b then [] else up_to_quit ws)))
+    front_by true w ws n e lt rest = absurd (omega (arith, lt))
+    front_by false w ws n e lt rest = (e, rest (omega (arith, lt)))
+
+pub any_left : (b c : Bool) → (b || c) ≡ true → (b ≡ true) ⊎ (c ≡ true)
 any_left true c e = inl refl
 any_left false c e = inr e
 
@@ -148,6 +186,48 @@ quit_begins id a b more h =
     begins_lift (λ past. has_quit id past ≡ true) (quit_more id) a b more h
 
 -- ---- the turns of a connection
+
+no_quits_front : (xs ys : Requests) → NoQuits (xs ++ ys) → NoQuits xs
+no_quits_front [] ys h = tt
+no_quits_front (x ∷ xs) ys h = (h.0, no_quits_front xs ys h.1)
+
+no_quits_back : (xs ys : Requests) → NoQuits (xs ++ ys) → NoQuits ys
+no_quits_back [] ys h = h
+no_quits_back (x ∷ xs) ys h = no_quits_back xs ys h.1
+
+unquit_one : (n id : ℕ) (q : Bool) → q ≡ false → cond {A = ℕ} ((n == id) && q) 1 0 ≡ 0
+unquit_one n id q e = grind arith
+
+unquit_at : (id : ℕ) (t : Turn) → NoQuits (run_in t) → quits id t.0 ≡ 0
+unquit_at id (Admit n, p) h = refl
+unquit_at id (Run n words moment, p) h = unquit_one n id (is_quit words) h.0
+unquit_at id (Tick moment, p) h = refl
+unquit_at id (Take n most, p) h = refl
+unquit_at id (Close n, p) h = refl
+
+-- no QUIT is among those that ran
+pub none_in : (id : ℕ) (ts : List Turn) → NoQuits (runs_in ts) → quits_in id ts ≡ 0
+none_in id [] h = refl
+none_in id (t ∷ ts) h =
+    let one = unquit_at id t (no_quits_back (runs_in ts) (run_in t) h) in
+    let rest = none_in id ts (no_quits_front (runs_in ts) (run_in t) h) in
+    omega (arith, one, rest)
+
+unclosed_at : (id c : ℕ) (clock : Option ℕ) (t : Turn) → IsWork id clock t → closes c t.0 ≡ 0
+unclosed_at id c clock (Admit n, p) h = refl
+unclosed_at id c clock (Run n words moment, p) h = refl
+unclosed_at id c clock (Tick moment, p) h = refl
+unclosed_at id c clock (Take n most, p) h = refl
+unclosed_at id c clock (Close n, p) h = absurd h
+
+-- no Close is among the turns of its service
+pub unclosed_in : (id c : ℕ) (clock : Option ℕ) (ts : List Turn) → All (IsWork id clock) ts
+    → closes_in c ts ≡ 0
+unclosed_in id c clock [] h = refl
+unclosed_in id c clock (t ∷ ts) h =
+    let one = unclosed_at id c clock t (All-head (IsWork id clock) t ts h) in
+    let rest = unclosed_in id c clock ts (All-tail (IsWork id clock) t ts h) in
+    omega (arith, one, rest)
 
 module _ (clock : Option ℕ) (id : ℕ) (past : List Entry) where
   here : (n : ℕ) (q rest : Bool) → n ≡ id → (q || false) ≡ true

@@ -6,7 +6,7 @@ use Rattle.std.specs.Io.KnownBytes.{Keeps}
 use Rattle.edge_links.specs.Counts.{IdleCounted}
 use Rattle.edge_links.proofs.Bytes.{consumes_kept, consumes_none}
 use Rattle.seat_turns.specs.Own.{Grows}
-use Rattle.shared_book.specs.Turns.{Place, Turn, limits_of, Refuses}
+use Rattle.shared_book.specs.Turns.{IsServerCause, Place, Turn, limits_of, Refuses}
 use Rattle.shared_book.specs.declared.turns.Refusal.{Refusal}
 use Rattle.conn_worker.specs.declared.connection.Connection.{Connection}
 use Rattle.conn_worker.specs.declared.serve.Heard.{Heard}
@@ -27,7 +27,7 @@ module _ (clock : Option ℕ) (id : ℕ) (old new : Place) where
 
 -- nothing came, and the Tick was refused
 pub unticked : (clock : Option ℕ) (most : ℕ) (e : Refusal) (c : Connection) (old new : Standing)
-    → EndsService e → Refuses e 0 old.place new.place → Keeps old.left new.left
+    → EndsService e → Refuses IsServerCause e old.place new.place → Keeps old.left new.left
     → IdleCounted old.counts new.counts → HearsPart clock most (ended_by e) c c old new
 unticked clock most e c old new ends r kept counted =
     let took = consumes_kept old.left old.left new.left [] (consumes_none old.left) kept in

@@ -1,4 +1,5 @@
 pub mod Numbers
 pub mod Quits
+pub mod Elsewhere
 pub mod Visits
 pub mod Rounds

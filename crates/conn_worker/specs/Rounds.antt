@@ -8,7 +8,7 @@ use Rattle.resp_stream.specs.Parse.{requests_of}
 use Rattle.edge_links.specs.Counts.{IdleCounted}
 use Rattle.shared_book.specs.declared.turns.Refusal.{Refusal}
 use Rattle.seat_turns.specs.Own.{Grows}
-use Rattle.shared_book.specs.Turns.{Place, Turn, limits_of, Admits, Closes, Refuses}
+use Rattle.shared_book.specs.Turns.{Place, Turn, limits_of, Admits, IsServerCause, Refuses}
 use Rattle.conn_worker.specs.declared.report.Report.{Report}
 use Rattle.conn_worker.specs.declared.report.Ended.{Ended}
 use Rattle.conn_worker.specs.declared.report.Ended.TheVariants as ended
@@ -16,7 +16,7 @@ use Rattle.conn_worker.specs.declared.connection.Stop.{Stop}
 use Rattle.conn_worker.specs.Quits.{ended_at, stop_in, up_to_quit}
 use Rattle.conn_worker.specs.Visits.{IsEnd, IsWork, runs_in, gave, Standing, LinkEnds}
 use Rattle.conn_worker.specs.Visits.{TicksAt, IsLeft, EndsService, ended_by, Delivers}
-use Rattle.conn_worker.specs.Visits.{DeliversPart, DeliveryCounts}
+use Rattle.conn_worker.specs.Visits.{DeliversPart, DeliveryCounts, Leaves}
 
 -- the most bytes of one read
 abbrev pub most_read : ℕ
@@ -40,12 +40,12 @@ pub record RunsSome (clock : Option ℕ) (cause : Ended) (id : ℕ) (before afte
   pub work : All (IsWork id clock) turns
   pub gave_none : gave (limits_of old) turns ≡ []
   pub runs : IsPrefix (requests_of before ++ runs_in turns) (up_to_quit (requests_of after))
-  pub cause_is : IsEnd cause id new
+  pub cause_is : IsEnd cause id turns new
 
 -- a Tick, or one that is left to the next read that brings nothing
 abbrev pub TicksOrLeaves : Option ℕ → Place → Place → Type 0
 TicksOrLeaves clock old new =
-    TicksAt clock old new ⊎ ((e : Refusal) × IsLeft e × Refuses e 0 old new)
+    TicksAt clock old new ⊎ ((e : Refusal) × IsLeft e × Refuses IsServerCause e old new)
 
 -- One read of the link, by which all that was read went from `before` to `after`. Nothing came, the
 -- link's count of idles rose, and a Tick was played; or a piece came, and its requests ran.
@@ -86,7 +86,8 @@ pub data LastRound (clock : Option ℕ) (cause : Ended) (id : ℕ) (before after
       → LastRound clock cause id before after old new
   -- nothing came, and the Tick was refused: no ticket was left, or a SHUTDOWN ran
   NoTick : (e : Refusal) → EndsService e → cause ≡ ended_by e
-      → IdleCounted old.counts new.counts → after ≡ before → Refuses e 0 old.place new.place
+      → IdleCounted old.counts new.counts → after ≡ before
+      → Refuses IsServerCause e old.place new.place
       → Consumes old.left new.left [] → Keeps old.contents new.contents
       → LastRound clock cause id before after old new
   -- a piece came, and a turn for its requests was refused
@@ -114,16 +115,17 @@ pub record Serves (clock : Option ℕ) (cause : Ended) (id : ℕ) (old new : Sta
   pub after : List ℕ
   pub last : LastRound clock cause id before after middle new
   pub told : (stop : Stop) → stop_in after ≡ Some stop
-      → (cause ≡ ended_at stop) ⊎ (cause ≡ ended.LinkFault) ⊎ IsEnd cause id new.place
+      → (cause ≡ ended_at stop) ⊎ (cause ≡ ended.LinkFault) ⊎ IsEnd cause id [] new.place
 
 -- a connection that was admitted, between its Admit and its Close
 pub record ServedInRounds (clock : Option ℕ) (r : Report) (old new : Standing) : Type 0 where
   pub first : Place
   pub last : Place
+  pub cause : Ended
   pub admits : Admits r.id old.place first
-  pub serves : Serves clock r.ended r.id (record old { place = first })
+  pub serves : Serves clock cause r.id (record old { place = first })
       (record new { place = last })
-  pub closes : Closes r.id last new.place
+  pub leaves : Leaves cause r.ended r.id last new.place
 
 -- the rounds of a visit; none where the connection was not admitted
 abbrev pub InRounds : Option ℕ → Report → Standing → Standing → Type 0

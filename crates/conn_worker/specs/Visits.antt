@@ -9,9 +9,11 @@ use Rattle.resp_stream.specs.Stream.{fed}
 use Rattle.edge_links.specs.declared.counts.Counts.{Counts}
 use Rattle.edge_links.specs.Counts.{Counted, EndCounted, FaultCounted, IdleCounted}
 use Rattle.serial_model.specs.declared.history.Limits.{Limits}
-use Rattle.serial_model.specs.declared.history.Entry.{Entry}
 use Rattle.serial_model.specs.declared.history.Entry.TheVariants as entry
-use Rattle.serial_model.specs.History.{is_admitted, latest, reads_on, stream, taken, unsent}
+use Rattle.serial_model.specs.History.{gives_on, is_admitted, is_stopped, latest, reads_on, stream}
+use Rattle.serial_model.specs.History.{taken, unsent}
+use Rattle.turn_lock.specs.Counts.{total}
+use Rattle.turn_lock.specs.declared.rule.TheConstants.{LAST_TICKET}
 use Rattle.shared_book.specs.declared.turns.Refusal.{Refusal}
 use Rattle.shared_book.specs.declared.turns.Refusal.TheVariants as refusal
 use Rattle.serial_model.specs.declared.history.BookCall.{BookCall}
@@ -19,7 +21,7 @@ use Rattle.seat_turns.specs.Own.{past_of, IsWithin, Grows}
 use Rattle.seat_turns.specs.Turns.{in_order}
 use Rattle.shared_book.specs.Batches.{requests_in}
 use Rattle.shared_book.specs.Turns.{Place, Turn, IsCause, limits_of, Admits, Closes, Refuses}
-use Rattle.shared_book.specs.Turns.{IsServerCause, Takes, Ticks}
+use Rattle.shared_book.specs.Turns.{IsCloseCause, IsServerCause, Takes, Ticks}
 use Rattle.conn_worker.specs.declared.report.Report.{Report}
 use Rattle.conn_worker.specs.declared.report.Ended.{Ended}
 use Rattle.conn_worker.specs.declared.report.Ended.TheVariants as ended
@@ -27,11 +29,13 @@ use Rattle.conn_worker.specs.declared.connection.Connection.{Connection}
 use Rattle.conn_worker.specs.declared.connection.Behind.{Behind}
 use Rattle.conn_worker.specs.declared.connection.Stop.{Stop}
 use Rattle.conn_worker.specs.declared.connection.Stop.TheVariants as stop
+use Rattle.conn_worker.specs.declared.connection.Stop.TheVariants.{Quit}
 use Rattle.conn_worker.specs.declared.deliver.Front.{Front}
 use Rattle.conn_worker.specs.declared.deliver.Front.TheVariants as front
 use Rattle.conn_worker.specs.declared.serve.Heard.{Heard}
 use Rattle.conn_worker.specs.declared.serve.Heard.TheVariants as came
 use Rattle.conn_worker.specs.Quits.{has_quit, stop_behind, stop_in, up_to_quit}
+use Rattle.conn_worker.specs.Elsewhere.{HadEnded, HasQuit, closes}
 
 abbrev pub ended_by : Refusal → Ended
 ended_by refusal.Dropped = ended.Dropped
@@ -39,16 +43,17 @@ ended_by refusal.NoMemory = ended.NoMemory
 ended_by refusal.Worn = ended.Worn
 ended_by refusal.Stopped = ended.Stopped
 
--- why no turn is taken any more, as the seat shows it
-abbrev pub IsEnd : Ended → ℕ → Place → Type 0
-IsEnd ended.PeerEnd id k = ⊥
-IsEnd ended.Quit id k = ⊥
-IsEnd ended.Dropped id k = IsCause refusal.Dropped id k
-IsEnd (ended.BadRequest fault) id k = ⊥
-IsEnd ended.LinkFault id k = ⊥
-IsEnd ended.NoMemory id k = ⊤
-IsEnd ended.Worn id k = IsCause refusal.Worn id k
-IsEnd ended.Stopped id k = IsCause refusal.Stopped id k
+-- why no turn of the connection is taken any more, behind these turns of its own, as the seat shows
+-- it
+abbrev pub IsEnd : Ended → ℕ → List Turn → Place → Type 0
+IsEnd ended.PeerEnd id turns k = ⊥
+IsEnd ended.Quit id turns k = ⊥
+IsEnd ended.Dropped id turns k = HadEnded id turns k
+IsEnd (ended.BadRequest fault) id turns k = ⊥
+IsEnd ended.LinkFault id turns k = ⊥
+IsEnd ended.NoMemory id turns k = ⊤
+IsEnd ended.Worn id turns k = LAST_TICKET ≤ k.tickets
+IsEnd ended.Stopped id turns k = ⊥
 
 -- ---- the turns of one connection, the newest first
 
@@ -121,7 +126,7 @@ pub record RunsPart (clock : Option ℕ) (cause : Ended) (before after : Connect
   pub id : after.id ≡ before.id
   pub requests : after.requests ≡ before.requests + length (runs_in turns)
   pub runs : IsPrefix (runs_in turns) (up_to_quit (parse before.reader).items)
-  pub cause_is : IsEnd cause before.id new
+  pub cause_is : IsEnd cause before.id turns new
 
 -- all of them ran, up to a QUIT, and why no more is read
 pub record RunsAll (clock : Option ℕ) (stop : Option Stop) (before after : Connection)
@@ -136,6 +141,7 @@ pub record RunsAll (clock : Option ℕ) (stop : Option Stop) (before after : Con
   pub runs : runs_in turns ≡ up_to_quit (parse before.reader).items
   pub stop_is : stop ≡ stop_of_reader before
   pub reader : stop ≡ None → after.reader ≡ (parse before.reader).stream
+  pub quits : stop ≡ Some Quit → HasQuit before.id new
 
 -- all of them ran, and the first bytes that wait were taken
 pub record HearsAll (clock : Option ℕ) (behind : Behind) (before after : Connection)
@@ -163,7 +169,13 @@ pub record Delivers (id : ℕ) (link0 link1 : Option (List ℕ)) (old new : Plac
   pub taken_all : reads_on (limits_of old) (past_of new) id ≡ true
       → length (stream (limits_of old) id (past_of old)) ≤ taken (limits_of old) id (past_of new)
 
--- some of what waited was taken, and some of that was written
+-- a Take was refused
+pub record TakeEnds (cause : Ended) (id : ℕ) (k : Place) : Type 0 where
+  pub refusal : Refusal
+  pub is : cause ≡ ended_by refusal
+  pub cause_is : IsCause gives_on id refusal k
+
+-- some of what waited was taken, and that was written, or some of it where the link failed
 pub record DeliversPart (cause : Ended) (id : ℕ) (link0 link1 : Option (List ℕ)) (old new : Place)
     : Type 0 where
   pub turns : List Turn
@@ -173,7 +185,8 @@ pub record DeliversPart (cause : Ended) (id : ℕ) (link0 link1 : Option (List �
   pub bytes : List ℕ
   pub wrote : Appends link0 link1 bytes
   pub front : IsPrefix bytes (gave (limits_of old) turns)
-  pub cause_is : (cause ≡ ended.LinkFault) ⊎ IsEnd cause id new
+  pub all_wrote : (cause ≡ ended.LinkFault → ⊥) → bytes ≡ gave (limits_of old) turns
+  pub cause_is : (cause ≡ ended.LinkFault) ⊎ TakeEnds cause id new
 
 abbrev pub DeliveryCounts : Result ⊤ Ended → Counts → Counts → Type 0
 DeliveryCounts (Ok u) old new = new ≡ old
@@ -226,7 +239,7 @@ EndsService refusal.Stopped = ⊤
 -- what is due leaves where a read brings nothing, unless that is refused
 abbrev pub Idles : Option ℕ → Heard → Place → Place → Type 0
 Idles clock came.Idle old new = TicksAt clock old new
-Idles clock (came.Left e) old new = Refuses e 0 old new × IsLeft e
+Idles clock (came.Left e) old new = Refuses IsServerCause e old new × IsLeft e
 Idles clock (came.Piece behind) old new = ⊥
 
 -- a link and a seat, at a moment
@@ -269,7 +282,8 @@ pub data HearsPart (clock : Option ℕ) (most : ℕ) (cause : Ended) (before aft
   Nothing : LinkEnds cause old.counts new.counts → after ≡ before → new.place ≡ old.place
       → Consumes old.left new.left [] → HearsPart clock most cause before after old new
   Unticked : (e : Refusal) → EndsService e → cause ≡ ended_by e
-      → Refuses e 0 old.place new.place → after ≡ before → Consumes old.left new.left []
+      → Refuses IsServerCause e old.place new.place → after ≡ before
+      → Consumes old.left new.left []
       → IdleCounted old.counts new.counts
       → HearsPart clock most cause before after old new
   Part : (piece : List ℕ) → length piece ≤ most → Consumes old.left new.left piece
@@ -295,20 +309,21 @@ IsWhole ended.Worn = ⊥
 IsWhole ended.Stopped = ⊥
 
 -- why the connection is served no longer, as the seat or what was read shows it
-abbrev pub IsShown : Ended → ℕ → List ℕ → Place → Type 0
-IsShown ended.PeerEnd id heard k = stop_in heard ≡ None
-IsShown ended.Quit id heard k =
-    (stop_in heard ≡ Some stop.Quit) × (has_quit id (past_of k) ≡ true)
-IsShown ended.Dropped id heard k = IsEnd ended.Dropped id k
-IsShown (ended.BadRequest fault) id heard k = stop_in heard ≡ Some (stop.Fault fault)
-IsShown ended.LinkFault id heard k = ⊤
-IsShown ended.NoMemory id heard k = ⊤
-IsShown ended.Worn id heard k = IsEnd ended.Worn id k
-IsShown ended.Stopped id heard k = IsEnd ended.Stopped id k
+abbrev pub IsShown : Ended → ℕ → List ℕ → List Turn → Place → Type 0
+IsShown ended.PeerEnd id heard turns k = stop_in heard ≡ None
+IsShown ended.Quit id heard turns k =
+    (stop_in heard ≡ Some stop.Quit) × (has_quit id (past_of k) ≡ true) × HasQuit id k
+IsShown ended.Dropped id heard turns k = HadEnded id turns k
+IsShown (ended.BadRequest fault) id heard turns k = stop_in heard ≡ Some (stop.Fault fault)
+IsShown ended.LinkFault id heard turns k = ⊤
+IsShown ended.NoMemory id heard turns k = ⊤
+IsShown ended.Worn id heard turns k = LAST_TICKET ≤ k.tickets
+IsShown ended.Stopped id heard turns k =
+    (stop_in heard ≡ None) × (is_stopped (limits_of k) (past_of k) ≡ true)
 
 -- What the service of an admitted connection did, up to its end. The Runs are the first requests in
--- what was read, in order, and none behind a QUIT; what was written are the first bytes that its
--- Takes gave. Where the end was read, they are all.
+-- what was read, in order, and none behind a QUIT; where the end was read, they are all. What was
+-- written are all bytes that its Takes gave, or the first of them where the link failed.
 pub record Works (clock : Option ℕ) (cause : Ended) (id requests : ℕ)
     (left0 left1 link0 link1 : Option (List ℕ)) (old new : Place) : Type 0 where
   pub turns : List Turn
@@ -322,25 +337,49 @@ pub record Works (clock : Option ℕ) (cause : Ended) (id requests : ℕ)
   pub runs : IsPrefix (runs_in turns) (up_to_quit (requests_of heard))
   pub front : IsPrefix bytes (gave (limits_of old) turns)
   pub all_ran : IsWhole cause → runs_in turns ≡ up_to_quit (requests_of heard)
-  pub all_wrote : IsWhole cause → bytes ≡ gave (limits_of old) turns
+  pub all_wrote : (cause ≡ ended.LinkFault → ⊥) → bytes ≡ gave (limits_of old) turns
   pub all_taken : IsWhole cause → reads_on (limits_of old) (past_of new) id ≡ true
       → All (IsTaken (limits_of old) id (taken (limits_of old) id (past_of new))) turns
-  pub shown : IsShown cause id heard new
+  pub shown : IsShown cause id heard turns new
 
 -- ---- the whole visit of a connection
 
-abbrev pub close_turns : ℕ → Option (List Entry) → List Turn
-close_turns id None = []
-close_turns id (Some past) = (entry.Close id, past) ∷ []
+-- a Close, or none where the connection may not be closed any more, or no ticket is left
+abbrev pub MayClose : ℕ → Place → Place → Type 0
+MayClose id last new =
+    Closes id last new ⊎ ((e : Refusal) × Refuses (IsCloseCause id) e last new)
 
--- a connection that was admitted: one Admit, its work, and at most one Close
+-- one that quit ends so where it is closed now, and no other Close of it was seen; where its Close
+-- is refused, it ends by that
+pub data QuitLeaves (e : Ended) (id : ℕ) (last new : Place) : Type 0 where
+  Alone : e ≡ ended.Quit → Closes id last new → total (closes id) (past_of new) ≡ 1
+      → QuitLeaves e id last new
+  Late : (r : Refusal) → e ≡ ended_by r → Refuses (IsCloseCause id) r last new
+      → QuitLeaves e id last new
+
+-- a connection whose service ended so is closed, but for one that had ended
+abbrev pub Leaves : Ended → Ended → ℕ → Place → Place → Type 0
+Leaves ended.PeerEnd e id last new = (e ≡ ended.PeerEnd) × MayClose id last new
+Leaves ended.Quit e id last new = QuitLeaves e id last new
+Leaves ended.Dropped e id last new = (e ≡ ended.Dropped) × (new ≡ last)
+Leaves (ended.BadRequest fault) e id last new =
+    (e ≡ ended.BadRequest fault) × MayClose id last new
+Leaves ended.LinkFault e id last new = (e ≡ ended.LinkFault) × MayClose id last new
+Leaves ended.NoMemory e id last new = (e ≡ ended.NoMemory) × MayClose id last new
+Leaves ended.Worn e id last new = (e ≡ ended.Worn) × MayClose id last new
+Leaves ended.Stopped e id last new = (e ≡ ended.Stopped) × MayClose id last new
+
+-- A connection that was admitted: one Admit, its work, and at most one Close. One that is reported
+-- as dropped had ended by none of these.
 pub record Served (clock : Option ℕ) (r : Report) (left0 left1 link0 link1 : Option (List ℕ))
     (old new : Place) : Type 0 where
   pub first : Place
   pub last : Place
+  pub cause : Ended
   pub admits : Admits r.id old first
-  pub works : Works clock r.ended r.id r.requests left0 left1 link0 link1 first last
-  pub closes : Closes r.id last new
+  pub works : Works clock cause r.id r.requests left0 left1 link0 link1 first last
+  pub leaves : Leaves cause r.ended r.id last new
+  pub dropped : r.ended ≡ ended.Dropped → HadEnded r.id works.turns new
 
 -- a connection that was not admitted
 pub record NotServed (r : Report) (left0 left1 link0 link1 : Option (List ℕ)) (old new : Place)
@@ -349,7 +388,7 @@ pub record NotServed (r : Report) (left0 left1 link0 link1 : Option (List ℕ)) 
   pub none : r.requests ≡ 0
   pub refusal : Refusal
   pub ended : r.ended ≡ ended_by refusal
-  pub refuses : Refuses refusal 0 old new × IsServerCause refusal
+  pub refuses : Refuses IsServerCause refusal old new
   pub unread : left1 ≡ left0
   pub unwritten : link1 ≡ link0
 

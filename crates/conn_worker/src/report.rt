@@ -11,9 +11,9 @@ use shared_book::Refusal;
 pub enum Ended {
     /// The link gave its end.
     PeerEnd,
-    /// Its QUIT ran, and the last bytes that it was sent were written.
+    /// Its QUIT ran, the last bytes that it was sent were written, and it was closed.
     Quit,
-    /// The connection had ended already.
+    /// The connection had ended, and not by its worker: it was dropped, or closed by another.
     Dropped,
     /// The bytes that were read have this fault.
     BadRequest(StreamFault),

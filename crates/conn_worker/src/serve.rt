@@ -4,8 +4,8 @@ ghost use Rattle.std.specs.Io.KnownBytes.{Keeps};
 ghost use Rattle.resp_stream.specs.Stream.{begun};
 ghost use Rattle.serial_model.specs.History.{is_admitted};
 ghost use Rattle.seat_turns.specs.Own.{IsWithin, past_of};
-ghost use Rattle.conn_worker.specs.Visits.{EndCounts, Hears, HearsPart, HearingCounts, Visits};
-ghost use Rattle.conn_worker.specs.Visits.{Works, front_of, standing, stop_of};
+ghost use Rattle.conn_worker.specs.Visits.{EndCounts, Hears, HearsPart, HearingCounts, Leaves};
+ghost use Rattle.conn_worker.specs.Visits.{MayClose, Visits, Works, front_of, standing, stop_of};
 ghost use Rattle.conn_worker.specs.Rounds.{InRounds, Serves};
 
 use super::connection::{Behind, Connection, Stop};
@@ -157,6 +157,44 @@ fn serve_admitted<R: Wait, L: Link, C: Clock, G: Gate>(
     unreachable!()
 }
 
+// Closes the connection, where it may be closed still.
+fn may_close<R: Wait>(rt: &R, lock: &TurnLock<SharedBook>, seat: &mut Seat<SharedBook>, id: u64)
+    requires lock { seat.old.lock ≡ lock.now }
+    requires within { IsWithin seat.old }
+    requires admitted { is_admitted (past_of seat.old) id ≡ true }
+    ensures { MayClose id seat.old seat.new }
+{
+    match close(rt, lock, seat, id) {
+        Ok(()) => {}
+        Err(_) => {}
+    }
+}
+
+// Closes a connection whose service ended so, and tells how it ended: one that quit may be found
+// closed by another.
+fn leave<R: Wait>(
+    rt: &R,
+    lock: &TurnLock<SharedBook>,
+    seat: &mut Seat<SharedBook>,
+    id: u64,
+    ended: Ended,
+) -> Ended
+    requires lock { seat.old.lock ≡ lock.now }
+    requires within { IsWithin seat.old }
+    requires admitted { is_admitted (past_of seat.old) id ≡ true }
+    ensures { Leaves ended result id seat.old seat.new }
+{
+    match ended {
+        Ended::Dropped => {}
+        Ended::Quit => match close(rt, lock, seat, id) {
+            Ok(()) => {}
+            Err(refusal) => return ended_by(refusal),
+        },
+        _ => may_close(rt, lock, seat, id),
+    }
+    ended
+}
+
 /// Admits a connection, serves it over its link until it ends, and closes it. Each whole request
 /// that is read is one Run, and none behind a QUIT is; what waits for the connection is written
 /// before the next read. A read that brings nothing is one Tick, where a key is due; behind a
@@ -192,8 +230,8 @@ pub fn serve_link<R: Wait, L: Link, C: Clock, G: Gate>(
         }
     };
     let mut connection = Connection::new(alloc, id);
-    let ended = serve_admitted(rt, alloc, lock, seat, link, clock, gate, &mut connection);
-    close(rt, lock, seat, id);
+    let cause = serve_admitted(rt, alloc, lock, seat, link, clock, gate, &mut connection);
+    let ended = leave(rt, lock, seat, id, cause);
     gate.ended(id, ended);
     Report {
         id,

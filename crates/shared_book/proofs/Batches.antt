@@ -1,7 +1,7 @@
 -- Several requests of a connection and the Take behind them, in one batch or a turn each.
 use Rattle.std.proofs.Common.{◌≡◌, ◌≤◌, ◌<◌, ◌+◌, ℕ, suc, List, [], ◌∷◌, ◌++◌, length, take, true}
 use Rattle.std.proofs.Common.{refl, sym, ap, subst, ◌∙◌, arith, Some, None, length-append}
-use Rattle.std.proofs.Common.{append-nil, append_assoc, ne_eqb}
+use Rattle.std.proofs.Common.{append-nil, append_assoc, false, ne_eqb}
 use Rattle.std.specs.Prelude.{Option, Ok, IfOk, IfErr}
 use Rattle.std.specs.List.{All}
 use Rattle.std.proofs.lemmas.List.{take-append-le, take_all}
@@ -13,6 +13,7 @@ use Rattle.turn_lock.specs.Batches.{IsUnplayed}
 use Rattle.turn_lock.specs.declared.lock.Unplayed.{Unplayed}
 use Rattle.turn_lock.specs.declared.lock.Unplayed.TheVariants as unplayed
 use Rattle.turn_lock.proofs.Turns.{drawn_before}
+use Rattle.serial_model.specs.declared.history.Limits.{Limits}
 use Rattle.serial_model.specs.declared.history.Entry.{Entry}
 use Rattle.serial_model.specs.declared.history.BookCall.{BookCall}
 use Rattle.serial_model.specs.declared.history.BookCall.TheVariants.{Run, Take}
@@ -20,12 +21,11 @@ use Rattle.serial_model.specs.declared.history.BookReply.{BookReply}
 use Rattle.serial_model.specs.declared.history.BookReply.TheVariants.{Admitted, Ran, Ticked, Quiet}
 use Rattle.serial_model.specs.declared.history.BookReply.TheVariants.{Bytes, Closed, Refused}
 use Rattle.serial_model.specs.declared.history.BookRefusal.{BookRefusal}
-use Rattle.serial_model.specs.declared.history.BookRefusal.TheVariants.{Gone, NoMemory, Stopped}
-use Rattle.serial_model.specs.History.{is_admitted, is_stopped, has_ended}
+use Rattle.serial_model.specs.History.{gives_on, is_admitted, runs_on}
 use Rattle.seat_turns.specs.Own.{past_of, IsWithin, Within, Grows}
 use Rattle.seat_turns.specs.Turns.{Plays}
 use Rattle.resp_value.specs.declared.octets.Octets.{Octets}
-use Rattle.shared_book.specs.Turns.{Place, TurnStep, Runs, Takes, IsCause, Refuses, limits_in}
+use Rattle.shared_book.specs.Turns.{May, Place, TurnStep, Runs, Takes, IsCause, Refuses, limits_in}
 use Rattle.shared_book.specs.Turns.{limits_of, most}
 use Rattle.shared_book.specs.declared.turns.Refusal.{Refusal}
 use Rattle.shared_book.specs.declared.turns.Refusal.TheVariants as refusal
@@ -35,10 +35,10 @@ use Rattle.shared_book.specs.Batches.{refusal_by, ran_in, taken_in, IsOfBatch, a
 use Rattle.seat_turns.proofs.Owning.{within_begins}
 use Rattle.seat_turns.proofs.Turning.{plays, begins_trans, grows_worn}
 use Rattle.seat_turns.proofs.Growing.{grows_none, grows_then, grows_past}
-use Rattle.shared_book.proofs.Histories.{begins_lift, admitted_more, ended_more, stopped_more}
-use Rattle.shared_book.proofs.Did.{named}
-use Rattle.shared_book.proofs.Outcomes.{entries_long, refuses, never, runs, run_number, gives}
-use Rattle.shared_book.proofs.Outcomes.{rests}
+use Rattle.shared_book.proofs.Histories.{begins_lift, admitted_more, runs_off}
+use Rattle.shared_book.proofs.Histories.{no_runs_ungiven}
+use Rattle.shared_book.proofs.Outcomes.{entries_long, never, runs, run_number, gives, rests}
+use Rattle.shared_book.proofs.Outcomes.{run_refuses, take_refuses}
 
 -- ---- the turns of a batch
 
@@ -49,17 +49,30 @@ within_turn n a h own (Some x) more is p le =
     let z = within_begins a h own more is p (omega arith) in
     grind (arith, ne_eqb)
 
-cause_more : (e : Refusal) (id : ℕ) (k l : Place) → Grows k l [] → IsCause e id k → IsCause e id l
-cause_more refusal.Dropped id k l g h =
-    subst (λ z. has_ended z id (past_of l) ≡ true) (sym (ap limits_in g.setup))
-    (begins_lift (λ past. has_ended (limits_of k) id past ≡ true) (ended_more (limits_of k) id)
-    (past_of k) (past_of l) (grows_past k l [] g) h)
-cause_more refusal.NoMemory id k l g h = h
-cause_more refusal.Worn id k l g h = omega (arith, h, g.tickets)
-cause_more refusal.Stopped id k l g h =
-    subst (λ z. is_stopped z (past_of l) ≡ true) (sym (ap limits_in g.setup))
-    (begins_lift (λ past. is_stopped (limits_of k) past ≡ true) (stopped_more (limits_of k))
-    (past_of k) (past_of l) (grows_past k l [] g) h)
+-- what a connection that was admitted may not do any more, it never may
+Lasts : May → ℕ → Type 0
+Lasts may id = (l : Limits) (e : Entry) (past : List Entry) → is_admitted past id ≡ true
+    → may l past id ≡ false → may l (e ∷ past) id ≡ false
+
+cause_more : (may : May) (id : ℕ) → Lasts may id → (e : Refusal) (k l : Place)
+    → is_admitted (past_of k) id ≡ true → Grows k l [] → IsCause may id e k → IsCause may id e l
+unfolding Lasts
+cause_more may id lasts refusal.Dropped k l on g h =
+    subst (λ z. may z (past_of l) id ≡ false) (sym (ap limits_in g.setup))
+    (begins_lift (λ past. (is_admitted past id ≡ true) × (may (limits_of k) past id ≡ false))
+    (λ e past two. (admitted_more id e past two.0, lasts (limits_of k) e past two.0 two.1))
+    (past_of k) (past_of l) (grows_past k l [] g) (on, h)).1
+cause_more may id lasts refusal.NoMemory k l on g h = h
+cause_more may id lasts refusal.Worn k l on g h = omega (arith, h, g.tickets)
+cause_more may id lasts refusal.Stopped k l on g h = absurd h
+
+-- one that may take nothing runs nothing
+ungiven_unrun : (id : ℕ) (e : Refusal) (k : Place) → IsCause gives_on id e k
+    → IsCause runs_on id e k
+ungiven_unrun id refusal.Dropped k h = no_runs_ungiven (limits_of k) id (past_of k) h
+ungiven_unrun id refusal.NoMemory k h = h
+ungiven_unrun id refusal.Worn k h = h
+ungiven_unrun id refusal.Stopped k h = h
 
 grows_into : (a b c : Place) → Grows a b [] → Grows b c [] → Grows a c []
 grows_into a b c p q = grows_then a b c [] [] p q
@@ -119,20 +132,14 @@ module _ (id now : ℕ) where
       last_plays call reply k next (record next { tickets = k.tickets }) is (omega arith) same turn
       (refl, refl, refl, refl, refl) refl refl
 
-  refused : (call : BookCall) (r : BookRefusal) (k l : Place) → named call ≡ id
-      → is_admitted (past_of k) id ≡ true → Plays TurnStep call (Refused r) k l
-      → Refuses (refusal_by r) id k l
-  refused call (Gone n) k l at on p = refuses k l call (Gone n) id (at, on) p
-  refused call NoMemory k l at on p = refuses k l call NoMemory id tt p
-  refused call Stopped k l at on p = refuses k l call Stopped id tt p
-
   -- what was taken of a Quiet adds none, and no Run is Quiet
-  passed : (call : BookCall) (reply : BookReply) (k l : Place) → named call ≡ id
-      → (Plays TurnStep call Quiet k l → Grows k l []) → is_admitted (past_of k) id ≡ true
+  passed : (call : BookCall) (reply : BookReply) (k l : Place)
+      → (Plays TurnStep call Quiet k l → Grows k l [])
+      → ((r : BookRefusal) → Plays TurnStep call (Refused r) k l → Grows k l [])
       → Plays TurnStep call reply k l → adds_none reply ≡ true → Grows k l [] × IsOfBatch reply
-  passed call Quiet k l at quiet on p h = (quiet p, tt)
-  passed call (Refused r) k l at quiet on p h = ((refused call r k l at on p).grows, tt)
-  passed call reply k l at quiet on p h = absurd (let no : ⊥ = cc in no)
+  passed call Quiet k l quiet refused p h = (quiet p, tt)
+  passed call (Refused r) k l quiet refused p h = (refused r p, tt)
+  passed call reply k l quiet refused p h = absurd (let no : ⊥ = cc in no)
 
   -- a call that runs a request here
   pub by_run : (P : BookCall → Type 0) (call : BookCall) → IsRunAt id now call
@@ -166,8 +173,9 @@ module _ (id now : ℕ) where
   all_passed [] [] k after is on le t all = absurd t
   all_passed [] (reply ∷ []) k after is on le t all =
       let (next, one, turn, two) = t in
-      let did = passed (Take id most) reply k after refl
-      (λ p. (rests k after id most (omega arith) p).grows) on
+      let did = passed (Take id most) reply k after
+      (λ p. (rests k after id most (omega arith) p).grows)
+      (λ r p. (take_refuses k after id most r p).grows)
       (last_plays (Take id most) reply k next after is le one turn two.0 two.1 two.2)
       (All-head (λ x. adds_none x ≡ true) reply [] all) in
       (did.0, All-cons IsOfBatch reply [] did.1 (All-nil IsOfBatch))
@@ -179,7 +187,8 @@ module _ (id now : ℕ) where
       let call = Run id words now in
       let l = with_tickets next k.tickets in
       let p = one_plays call reply k next is same turn in
-      let one = passed call reply k l refl (λ q. absurd (never k l call Quiet q refl)) on p
+      let one = passed call reply k l (λ q. absurd (never k l call Quiet q refl))
+      (λ r q. (run_refuses k l id words now r q).grows) p
       (All-head (λ x. adds_none x ≡ true) reply replies all) in
       let more = all_passed requests replies l after one.0.within (on_at k l call reply p on)
       (less_at next after k.tickets le)
@@ -212,7 +221,14 @@ module _ (id now : ℕ) where
       (e : Refusal) (k l after : Place) → Runs id words now k l
       → RunsFirst id now (suc count) requests (suc count + ran) e l after
       → RunsFirst id now count (words ∷ requests) (count + suc ran) e k after
-  first_more words requests count ran e k l after run h = grind arith
+  first_more words requests count ran e k l after run h = record {
+    number = suc h.number;
+    counted = omega (arith, h.counted);
+    within = omega (arith, h.within);
+    each = (l, run, h.each);
+    cause_is = h.cause_is;
+    take_is = λ all. h.take_is (omega (arith, all));
+  }
 
   told_ran : (m : ℕ) (words : List (List ℕ)) (requests : List (List (List ℕ)))
       (replies : List BookReply) (k l after : Place) → m ≡ length l.seen → Runs id words now k l
@@ -230,16 +246,18 @@ module _ (id now : ℕ) where
       }
 
   told_refused : (r : BookRefusal) (requests : List (List (List ℕ))) (replies : List BookReply)
-      (k l after : Place) → Refuses (refusal_by r) id k l → Grows l after []
+      (k after : Place) → Grows k after [] → IsCause runs_on id (refusal_by r) after
+      → (0 ≡ length requests → IsCause gives_on id (refusal_by r) after)
       → All IsOfBatch replies → Told requests (Refused r ∷ replies) k after
-  told_refused r requests replies k l after one more are = record {
+  told_refused r requests replies k after none run take are = record {
     ok = tt;
     err = λ count. record {
       number = 0;
       counted = refl;
       within = omega arith;
-      each = grows_into k l after one.grows more;
-      cause_is = cause_more (refusal_by r) id l after more one.cause_is;
+      each = none;
+      cause_is = run;
+      take_is = take;
     };
     are = All-cons IsOfBatch (Refused r) replies tt are;
     counts = λ count le. tt;
@@ -253,15 +271,20 @@ module _ (id now : ℕ) where
       → StopsAt adds_none (reply ∷ replies)
       → (IsWithin l → is_admitted (past_of l) id ≡ true → Told requests replies l after)
       → Told (words ∷ requests) (reply ∷ replies) k after
+  unfolding Lasts
   tells_one words requests (Ran m) replies k l after p on le rest stops behind =
       told_ran m words requests replies k l after (run_number k l id words now m p)
       (runs k l id words now m p)
       (behind p.grows.within (on_at k l (Run id words now) (Ran m) p on))
   tells_one words requests (Refused r) replies k l after p on le rest stops behind =
-      let one = refused (Run id words now) r k l refl on p in
-      let more = all_passed requests replies l after one.grows.within
-      (on_at k l (Run id words now) (Refused r) p on) le rest (stops.0 refl) in
-      told_refused r (words ∷ requests) replies k l after one more.0 more.1
+      let one = run_refuses k l id words now r p in
+      let there = on_at k l (Run id words now) (Refused r) p on in
+      let more = all_passed requests replies l after one.grows.within there le rest
+      (stops.0 refl) in
+      told_refused r (words ∷ requests) replies k after (grows_into k l after one.grows more.0)
+      (cause_more runs_on id (λ m e past. runs_off m id e past) (refusal_by r) l after there more.0
+      one.cause_is)
+      (λ none. absurd (omega (arith, none))) more.1
   tells_one words requests (Admitted n i) replies k l after p on le rest stops behind =
       absurd (never k l (Run id words now) (Admitted n i) p refl)
   tells_one words requests (Ticked n) replies k l after p on le rest stops behind =
@@ -290,8 +313,9 @@ module _ (id now : ℕ) where
       told_front None Quiet k after is refl refl (rests k after id most (omega arith) p) tt
       (λ count. tt)
   tells_take (Refused r) k after is on p =
-      let one = refused (Take id most) r k after refl on p in
-      grind (arith, told_refused, grows_none)
+      let one = take_refuses k after id most r p in
+      told_refused r [] [] k after one.grows (ungiven_unrun id (refusal_by r) after one.cause_is)
+      (λ none. one.cause_is) (All-nil IsOfBatch)
   tells_take (Admitted n i) k after is on p =
       absurd (never k after (Take id most) (Admitted n i) p refl)
   tells_take (Ran n) k after is on p = absurd (never k after (Take id most) (Ran n) p refl)
@@ -362,6 +386,7 @@ module _ (id now : ℕ) where
     past = r.past;
     begins = begins_trans (past_of a) (past_of b) r.past (grows_past a b [] g) r.begins;
     grows = grows_then a b c [] _ g r.grows;
+    on = subst (λ z. runs_on z r.past id ≡ true) (ap limits_in g.setup) r.on;
     ends = r.ends;
   }
 
@@ -411,10 +436,21 @@ module _ (id now : ℕ) where
 
     -- the next one was refused
     pub running_refused : (n moment : ℕ) (words : List (List ℕ)) (left : List BookCall)
-        → rest ≡ Run n words moment ∷ left → (e : Refusal) (l : Place) → Refuses e id k l
-        → RunsFirst id now count requests ran e old l
+        → rest ≡ Run n words moment ∷ left → (e : Refusal) (l : Place)
+        → Refuses (IsCause runs_on id) e k l → RunsFirst id now count requests ran e old l
     running_refused n moment words left next e l stops =
-        grind (arith, length-append, all_done, each_then)
+        let parts : requests ≡ r.done ++ (words ∷ requests_in left)
+        = r.parts ∙ ap (λ z. r.done ++ requests_in z) next in
+        let long = ap length parts ∙ length-append r.done (words ∷ requests_in left) in
+        record {
+          number = length r.done;
+          counted = r.counted;
+          within = omega (arith, long);
+          each = subst (λ z. RunsEach id now z old l) (sym all_done)
+              (each_then id now r.done old k l r.each stops.grows);
+          cause_is = stops.cause_is;
+          take_is = λ all. absurd (omega (arith, all, long));
+        }
 
     none_left : rest ≡ [] → requests ≡ r.done
     none_left none = r.parts ∙ (ap (λ z. r.done ++ requests_in z) none ∙ append-nil r.done)
@@ -424,9 +460,19 @@ module _ (id now : ℕ) where
         → RunsAndTakes id now count requests ran front old l
     running_takes none front l takes = grind (arith, none_left)
 
-    pub running_ends : rest ≡ [] → (e : Refusal) (l : Place) → Refuses e id k l
-        → RunsFirst id now count requests ran e old l
-    running_ends none e l stops = grind (arith, none_left, all_done, each_then)
+    pub running_ends : rest ≡ [] → (e : Refusal) (l : Place)
+        → Refuses (IsCause gives_on id) e k l → RunsFirst id now count requests ran e old l
+    running_ends none e l stops =
+        let long = ap length (none_left none) in
+        record {
+          number = length r.done;
+          counted = r.counted;
+          within = omega (arith, long);
+          each = subst (λ z. RunsEach id now z old l) (sym all_done)
+              (each_then id now r.done old k l r.each stops.grows);
+          cause_is = ungiven_unrun id e l stops.cause_is;
+          take_is = λ all. stops.cause_is;
+        }
 
     pub running_more : (n moment : ℕ) (words : List (List ℕ)) (left : List BookCall)
         → rest ≡ Run n words moment ∷ left → (l : Place) → Runs id words now k l

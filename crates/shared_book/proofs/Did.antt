@@ -1,7 +1,7 @@
 -- What each reply to a connection's turn says of it.
 use Rattle.std.proofs.Common.{◌≡◌, ◌<◌, ◌+◌, ℕ, List, [], ◌∷◌, length, max, take, Bool, true, false}
 use Rattle.std.proofs.Common.{cond, refl, sym, ap, ◌∙◌, arith, Some, None}
-use Rattle.std.specs.Prelude.{Option, ◌⊎◌}
+use Rattle.std.specs.Prelude.{Option}
 use Rattle.turn_lock.specs.History.{past_after}
 use Rattle.serial_model.specs.declared.history.Limits.{Limits}
 use Rattle.serial_model.specs.declared.history.Entry.{Entry}
@@ -18,8 +18,7 @@ use Rattle.serial_model.specs.Steps.{Turn as Stepped, book_step, BookStep, gone}
 use Rattle.serial_model.specs.Steps.{admitting, running, taking, ticking, tick_at, closing}
 use Rattle.serial_model.specs.Steps.{stopped}
 use Rattle.serial_model.proofs.Turning.{by_step}
-use Rattle.shared_book.specs.Turns.{TurnStep}
-use Rattle.shared_book.proofs.Histories.{no_runs_ungiven, no_runs_unread}
+use Rattle.shared_book.specs.Turns.{May, TurnStep}
 
 -- by the case of a test, which is known in each
 by_test : {X : Type 0} (P : X → Type 0) (b : Bool) (x y : X) → (b ≡ true → P x)
@@ -39,6 +38,7 @@ comes (Take id most) (Bytes n bytes) = true
 comes (Take id most) Quiet = true
 comes (Take id most) (Refused Stopped) = false
 comes (Close id) (Closed n) = true
+comes (Close id) (Refused NoMemory) = false
 comes (Close id) (Refused Stopped) = false
 comes call (Refused r) = true
 comes call reply = false
@@ -51,12 +51,21 @@ named (Tick now) = 0
 named (Take id most) = id
 named (Close id) = id
 
+-- what its connection must be able to do still, for the call to be played
+abbrev pub may_of : BookCall → May
+may_of Admit l past id = true
+may_of (Run n words now) l past id = runs_on l past id
+may_of (Tick now) l past id = true
+may_of (Take n most) l past id = gives_on l past id
+may_of (Close n) l past id = reads_on l past id
+
 module _ (l : Limits) (past : List Entry) where
   -- what a reply says of the entry that was added, if one was
   abbrev pub Says : BookReply → BookCall → Option Entry → Type 0
   Says (Admitted n id) call e = (e ≡ Some (entry.Admit id)) × (id ≡ admitted past + 1)
   Says (Ran n) (Run id words now) e =
       (e ≡ Some (entry.Run id words (max now (latest past)))) × (n ≡ length past + 1)
+      × (runs_on l past id ≡ true)
   Says (Ticked n) (Tick now) e =
       (e ≡ Some (entry.Tick (max now (latest past))))
       × (expired l past (max now (latest past)) ≡ [] → ⊥)
@@ -66,8 +75,8 @@ module _ (l : Limits) (past : List Entry) where
   Says (Bytes n bytes) (Take id most) e =
       (e ≡ Some (entry.Take id most)) × (bytes ≡ take most (unsent l id past))
       × (gives_on l past id ≡ true) × (0 < length bytes)
-  Says (Closed n) (Close id) e = e ≡ Some (entry.Close id)
-  Says (Refused (Gone i)) call e = (e ≡ None) × (runs_on l past (named call) ≡ false)
+  Says (Closed n) (Close id) e = (e ≡ Some (entry.Close id)) × (reads_on l past id ≡ true)
+  Says (Refused (Gone i)) call e = (e ≡ None) × (may_of call l past (named call) ≡ false)
   Says (Refused NoMemory) call e = e ≡ None
   Says (Refused Stopped) call e = (e ≡ None) × (is_stopped l past ≡ true)
   Says reply call e = ⊥
@@ -105,7 +114,7 @@ module _ (l : Limits) (past : List Entry) where
   step_says (Run id words now) =
       by_test (At (Run id words now)) (runs_on l past id)
       (running past id words now) (gone past id)
-      (λ on. (refl, Some (entry.Run id words (max now (latest past))), (refl, refl), refl))
+      (λ on. (refl, Some (entry.Run id words (max now (latest past))), (refl, refl, on), refl))
       (λ off. (refl, None, (refl, off), refl))
   step_says (Tick now) =
       by_test (At (Tick now)) (is_stopped l past) (stopped past)
@@ -115,11 +124,11 @@ module _ (l : Limits) (past : List Entry) where
       by_test (At (Take id most)) (gives_on l past id)
       (taking past id most (take most (unsent l id past))) (gone past id)
       (λ on. taking_says id most on (take most (unsent l id past)) refl)
-      (λ off. (refl, None, (refl, no_runs_ungiven l id past off), refl))
+      (λ off. (refl, None, (refl, off), refl))
   step_says (Close id) =
       by_test (At (Close id)) (reads_on l past id) (closing past id) (gone past id)
-      (λ on. (refl, Some (entry.Close id), refl, refl))
-      (λ off. (refl, None, (refl, no_runs_unread l id past off), refl))
+      (λ on. (refl, Some (entry.Close id), (refl, on), refl))
+      (λ off. (refl, None, (refl, off), refl))
 
   -- a Close takes no memory
   memory_says : (call : BookCall) → BookStep l past call (Refused NoMemory) past
@@ -131,13 +140,6 @@ module _ (l : Limits) (past : List Entry) where
   says call reply new does =
       by_step l (λ r n. BookStep l past call r n → Said call r n) past new call reply
       (λ h. step_says call) (memory_says call) does does
-
-  -- whatever a Close is answered
-  pub close_says : (id : ℕ) (reply : BookReply) (new : List Entry)
-      → BookStep l past (Close id) reply new
-      → (new ≡ entry.Close id ∷ past) ⊎ ((new ≡ past) × (reads_on l past id ≡ false))
-  unfolding book_step
-  close_says id reply new does = grind (arith, by_step, by_test)
 
   pub entry_added : (call : BookCall) (reply : BookReply) (new : List Entry)
       → BookStep l past call reply new

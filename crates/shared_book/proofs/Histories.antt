@@ -69,22 +69,26 @@ module _ (l : Limits) (c : ℕ) where
       → has_ended l c past ≡ true
   ended_or past on h = grind (arith, nat_tests)
 
+  -- ---- what it may not do any more, whatever is added
+
+  ended_off : (a e : Bool) → e ≡ true → (a && not e) ≡ false
+  ended_off a e h = grind arith
+
+  pub runs_off : (e : Entry) (past : List Entry) → is_admitted past c ≡ true
+      → runs_on l past c ≡ false → runs_on l (e ∷ past) c ≡ false
+  runs_off e past there off =
+      ended_off (is_admitted (e ∷ past) c) (has_ended l c (e ∷ past))
+      (ended_more e past (ended_or past there off))
+
   -- ---- what a connection may do, by how far it has ended
 
   live_takes : (a : Bool) (x : Standing) → (a && may_take x) ≡ false
       → (a && not (not (is_live x))) ≡ false
   live_takes a x h = grind arith
 
-  live_keeps : (a : Bool) (x : Standing) → (a && keeps_bytes x) ≡ false
-      → (a && not (not (is_live x))) ≡ false
-  live_keeps a x h = grind arith
-
-  -- no Run is accepted where no Take is, nor where no Close is
+  -- no Run is accepted where no Take is
   pub no_runs_ungiven : (past : List Entry) → gives_on l past c ≡ false → runs_on l past c ≡ false
   no_runs_ungiven past h = live_takes (is_admitted past c) ((state l past).standing c) h
-
-  pub no_runs_unread : (past : List Entry) → reads_on l past c ≡ false → runs_on l past c ≡ false
-  no_runs_unread past h = live_keeps (is_admitted past c) ((state l past).standing c) h
 
   keeps_some : (a k : Bool) (x : Standing) (xs : List ℕ) → (a && may_take x) ≡ true
       → k ≡ keeps_bytes x → 0 < length (cond k xs []) → (a && k) ≡ true

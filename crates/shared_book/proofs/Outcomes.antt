@@ -1,7 +1,6 @@
 -- From a turn that was played, what its call's function promises.
 use Rattle.std.proofs.Common.{◌≡◌, ◌≤◌, ◌<◌, ℕ, List, [], ◌∷◌, length, max, take, true, false, refl}
 use Rattle.std.proofs.Common.{sym, ap, subst, ◌∙◌, arith, Some, None, inl, inr, suc}
-use Rattle.std.specs.Prelude.{⊤}
 use Rattle.turn_lock.specs.History.{entries, past_after}
 use Rattle.turn_lock.specs.declared.rule.TheConstants.{LAST_TICKET}
 use Rattle.seat_turns.specs.Own.{past_of, Grows}
@@ -14,20 +13,19 @@ use Rattle.serial_model.specs.declared.history.BookCall.{BookCall}
 use Rattle.serial_model.specs.declared.history.BookCall.TheVariants.{Admit, Run, Tick, Take, Close}
 use Rattle.serial_model.specs.declared.history.BookReply.{BookReply}
 use Rattle.serial_model.specs.declared.history.BookReply.TheVariants.{Admitted, Ran, Ticked, Quiet}
-use Rattle.serial_model.specs.declared.history.BookReply.TheVariants.{Bytes, Refused}
+use Rattle.serial_model.specs.declared.history.BookReply.TheVariants.{Bytes, Closed, Refused}
 use Rattle.serial_model.specs.declared.history.BookRefusal.{BookRefusal}
 use Rattle.serial_model.specs.declared.history.BookRefusal.TheVariants.{Gone, NoMemory, Stopped}
-use Rattle.serial_model.specs.History.{is_admitted, expired, gives_on, has_ended, is_stopped}
-use Rattle.serial_model.specs.History.{latest, unsent}
+use Rattle.serial_model.specs.History.{expired, gives_on, is_stopped, latest, reads_on, runs_on}
+use Rattle.serial_model.specs.History.{unsent}
 use Rattle.serial_model.specs.Steps.{BookStep}
-use Rattle.serial_model.proofs.Standings.{reads_over}
 use Rattle.shared_book.specs.Turns.{Place, TurnStep, limits_of, limits_in, Refuses, Admits, Runs}
-use Rattle.shared_book.specs.Turns.{Gives, Rests, Ticks, Closes}
+use Rattle.shared_book.specs.Turns.{Gives, Rests, Ticks, Closes, May, IsCause, IsCloseCause}
+use Rattle.shared_book.specs.Turns.{IsServerCause}
 use Rattle.shared_book.specs.Batches.{refusal_by}
-use Rattle.shared_book.specs.declared.turns.Refusal.{Refusal}
 use Rattle.shared_book.specs.declared.turns.Refusal.TheVariants as refusal
-use Rattle.shared_book.proofs.Histories.{ended_or, ended_now, begins_lift, admitted_more, kept_by}
-use Rattle.shared_book.proofs.Did.{Said, says, close_says, comes, named}
+use Rattle.shared_book.proofs.Histories.{kept_by}
+use Rattle.shared_book.proofs.Did.{Said, says, comes, named, may_of}
 
 nothing_waits : (n : ℕ) (xs : List ℕ) → 0 < n → take n xs ≡ [] → xs ≡ []
 nothing_waits n xs lt h = grind arith
@@ -47,10 +45,6 @@ module _ {before after : Place} {call : BookCall} {reply : BookReply}
   said : Said (limits_of before) p.past call reply (past_after p.past p.added)
   said = says (limits_of before) p.past call reply (past_after p.past p.added) did_here
 
-  now_admitted : (id : ℕ) → is_admitted (past_of before) id ≡ true → is_admitted p.past id ≡ true
-  now_admitted id on = begins_lift (λ past. is_admitted past id ≡ true) (admitted_more id)
-      (past_of before) p.past p.begins on
-
   -- none was added
   module _ (none : past_after p.past p.added ≡ p.past) where
     stays : Grows before after []
@@ -65,27 +59,42 @@ module _ {before after : Place} {call : BookCall} {reply : BookReply}
     ends_same = ends_by p None none
 
 module _ (before after : Place) (call : BookCall) where
+  -- a reply that does not come
+  pub never : (reply : BookReply) → Plays TurnStep call reply before after
+      → comes call reply ≡ false → ⊥
+  never reply p not = let known = (said p).0 in cc
+
   -- ---- refusals
 
-  -- a turn is refused for its connection where it is of one that was admitted
-  abbrev pub IsOf : Refusal → ℕ → Type 0
-  IsOf refusal.Dropped id = (named call ≡ id) × (is_admitted (past_of before) id ≡ true)
-  IsOf cause id = ⊤
-
-  pub refuses : (r : BookRefusal) (id : ℕ) → IsOf (refusal_by r) id
-      → Plays TurnStep call (Refused r) before after → Refuses (refusal_by r) id before after
-  refuses NoMemory id of p =
+  -- a turn of a connection, which by the history may not take it any more
+  pub refuses : (may : May) (id : ℕ)
+      → ((l : Limits) (past : List Entry) → may_of call l past (named call) ≡ false
+      → may l past id ≡ false)
+      → comes call (Refused Stopped) ≡ false → (r : BookRefusal)
+      → Plays TurnStep call (Refused r) before after
+      → Refuses (IsCause may id) (refusal_by r) before after
+  refuses may id off on NoMemory p =
       let (known, e, s, is) = said p in
       record { grows = stays p (is ∙ ap (past_after p.past) s); cause_is = tt }
-  refuses (Gone n) id of p =
+  refuses may id off on (Gone n) p =
       let (known, e, s, is) = said p in
       let none = is ∙ ap (past_after p.past) s.0 in
       record {
         grows = stays p none;
-        cause_is = seen_after p none (λ l x. has_ended l id x ≡ true)
-            (ended_or (limits_of before) id p.past (now_admitted p id of.1) (rw of.0 at s.1));
+        cause_is = seen_after p none (λ l x. may l x id ≡ false)
+            (off (limits_of before) p.past s.1);
       }
-  refuses Stopped id of p =
+  refuses may id off on Stopped p = absurd (never (Refused Stopped) p on)
+
+  -- a turn that is of none
+  pub refuses_server : ((n : ℕ) → comes call (Refused (Gone n)) ≡ false) → (r : BookRefusal)
+      → Plays TurnStep call (Refused r) before after
+      → Refuses IsServerCause (refusal_by r) before after
+  refuses_server on NoMemory p =
+      let (known, e, s, is) = said p in
+      record { grows = stays p (is ∙ ap (past_after p.past) s); cause_is = tt }
+  refuses_server on (Gone n) p = absurd (never (Refused (Gone n)) p (on n))
+  refuses_server on Stopped p =
       let (known, e, s, is) = said p in
       let none = is ∙ ap (past_after p.past) s.0 in
       record {
@@ -93,52 +102,65 @@ module _ (before after : Place) (call : BookCall) where
         cause_is = seen_after p none (λ l x. is_stopped l x ≡ true) s.1;
       }
 
-  pub refused_worn : (id : ℕ) → Grows before after [] → LAST_TICKET ≤ after.tickets
-      → Refuses refusal.Worn id before after
-  refused_worn id g worn = record { grows = g; cause_is = worn }
+-- no ticket is left
+module _ (before after : Place) (g : Grows before after []) (worn : LAST_TICKET ≤ after.tickets)
+  where
+    pub worn_server : Refuses IsServerCause refusal.Worn before after
+    worn_server = record { grows = g; cause_is = worn }
 
-  -- a reply that does not come
-  pub never : (reply : BookReply) → Plays TurnStep call reply before after
-      → comes call reply ≡ false → ⊥
-  never reply p not = let known = (said p).0 in cc
+    pub worn_turn : (may : May) (id : ℕ) → Refuses (IsCause may id) refusal.Worn before after
+    worn_turn may id = record { grows = g; cause_is = worn }
+
+    pub worn_close : (id : ℕ) → Refuses (IsCloseCause id) refusal.Worn before after
+    worn_close id = record { grows = g; cause_is = worn }
 
 module _ (before after : Place) where
   pub admit_memory : Plays TurnStep Admit (Refused NoMemory) before after
-      → Refuses refusal.NoMemory 0 before after
-  admit_memory p = refuses before after Admit NoMemory 0 tt p
+      → Refuses IsServerCause refusal.NoMemory before after
+  admit_memory p = refuses_server before after Admit (λ n. refl) NoMemory p
 
   pub admit_stopped : Plays TurnStep Admit (Refused Stopped) before after
-      → Refuses refusal.Stopped 0 before after
-  admit_stopped p = refuses before after Admit Stopped 0 tt p
+      → Refuses IsServerCause refusal.Stopped before after
+  admit_stopped p = refuses_server before after Admit (λ n. refl) Stopped p
 
   pub tick_memory : (now : ℕ) → Plays TurnStep (Tick now) (Refused NoMemory) before after
-      → Refuses refusal.NoMemory 0 before after
-  tick_memory now p = refuses before after (Tick now) NoMemory 0 tt p
+      → Refuses IsServerCause refusal.NoMemory before after
+  tick_memory now p = refuses_server before after (Tick now) (λ n. refl) NoMemory p
 
   pub tick_stopped : (now : ℕ) → Plays TurnStep (Tick now) (Refused Stopped) before after
-      → Refuses refusal.Stopped 0 before after
-  tick_stopped now p = refuses before after (Tick now) Stopped 0 tt p
+      → Refuses IsServerCause refusal.Stopped before after
+  tick_stopped now p = refuses_server before after (Tick now) (λ n. refl) Stopped p
+
+  pub run_refuses : (id : ℕ) (words : List (List ℕ)) (now : ℕ) (r : BookRefusal)
+      → Plays TurnStep (Run id words now) (Refused r) before after
+      → Refuses (IsCause runs_on id) (refusal_by r) before after
+  run_refuses id words now r p =
+      refuses before after (Run id words now) runs_on id (λ l past h. h) refl r p
 
   pub run_gone : (id : ℕ) (words : List (List ℕ)) (now n : ℕ)
-      → is_admitted (past_of before) id ≡ true
       → Plays TurnStep (Run id words now) (Refused (Gone n)) before after
-      → Refuses refusal.Dropped id before after
-  run_gone id words now n on p = refuses before after (Run id words now) (Gone n) id (refl, on) p
+      → Refuses (IsCause runs_on id) refusal.Dropped before after
+  run_gone id words now n p = run_refuses id words now (Gone n) p
 
   pub run_memory : (id : ℕ) (words : List (List ℕ)) (now : ℕ)
       → Plays TurnStep (Run id words now) (Refused NoMemory) before after
-      → Refuses refusal.NoMemory id before after
-  run_memory id words now p = refuses before after (Run id words now) NoMemory id tt p
+      → Refuses (IsCause runs_on id) refusal.NoMemory before after
+  run_memory id words now p = run_refuses id words now NoMemory p
 
-  pub take_gone : (id most n : ℕ) → is_admitted (past_of before) id ≡ true
-      → Plays TurnStep (Take id most) (Refused (Gone n)) before after
-      → Refuses refusal.Dropped id before after
-  take_gone id most n on p = refuses before after (Take id most) (Gone n) id (refl, on) p
+  pub take_refuses : (id most : ℕ) (r : BookRefusal)
+      → Plays TurnStep (Take id most) (Refused r) before after
+      → Refuses (IsCause gives_on id) (refusal_by r) before after
+  take_refuses id most r p =
+      refuses before after (Take id most) gives_on id (λ l past h. h) refl r p
+
+  pub take_gone : (id most n : ℕ) → Plays TurnStep (Take id most) (Refused (Gone n)) before after
+      → Refuses (IsCause gives_on id) refusal.Dropped before after
+  take_gone id most n p = take_refuses id most (Gone n) p
 
   pub take_memory : (id most : ℕ)
       → Plays TurnStep (Take id most) (Refused NoMemory) before after
-      → Refuses refusal.NoMemory id before after
-  take_memory id most p = refuses before after (Take id most) NoMemory id tt p
+      → Refuses (IsCause gives_on id) refusal.NoMemory before after
+  take_memory id most p = take_refuses id most NoMemory p
 
   pub admits : (n id : ℕ) → Plays TurnStep Admit (Admitted n id) before after
       → Admits id before after
@@ -212,33 +234,31 @@ module _ (before after : Place) where
         grows = stays p none;
       })
 
-  pub closes : (id : ℕ) (reply : BookReply) → is_admitted (past_of before) id ≡ true
-      → Plays TurnStep (Close id) reply before after → Closes id before after
-  closes id reply on p =
-      elim (close_says (limits_of before) p.past id reply _ (did_here p)) [
-        | inl one ↦ record {
-          close = Some p.past;
-          grows = grows_by p (Some (entry.Close id)) one;
-          over = grind (arith, ends_by, ended_now);
-        }
-        | inr same ↦ record {
-          close = None;
-          grows = stays p same.0;
-          over = inl (ap (has_ended (limits_of before) id) (ends_same p same.0)
-              ∙ reads_over (limits_of before) p.past id (now_admitted p id on) same.1);
-        }
-      ]
-
-  pub close_worn : (id : ℕ) → Grows before after [] → LAST_TICKET ≤ after.tickets
+  pub closes : (id n : ℕ) → Plays TurnStep (Close id) (Closed n) before after
       → Closes id before after
-  close_worn id g worn = record { close = None; grows = g; over = inr worn }
+  closes id n p =
+      let (known, e, s, is) = said p in
+      let one = is ∙ ap (past_after p.past) s.0 in
+      record {
+        past = p.past;
+        begins = p.begins;
+        keeps = s.1;
+        grows = grows_by p (Some (entry.Close id)) one;
+        ends = ends_by p (Some (entry.Close id)) one;
+      }
 
-pub ruleset admitting = (admits, admit_memory, admit_stopped, refused_worn, never)
+  pub close_gone : (id n : ℕ) → Plays TurnStep (Close id) (Refused (Gone n)) before after
+      → Refuses (IsCloseCause id) refusal.Dropped before after
+  close_gone id n p =
+      let r = refuses before after (Close id) reads_on id (λ l past h. h) refl (Gone n) p in
+      record { grows = r.grows; cause_is = r.cause_is }
 
-pub ruleset running = (runs, run_number, run_gone, run_memory, refused_worn, never)
+pub ruleset admitting = (admits, admit_memory, admit_stopped, worn_server, never)
 
-pub ruleset taking = (take_gone, take_memory, refused_worn, never)
+pub ruleset running = (runs, run_number, run_gone, run_memory, worn_turn, never)
 
-pub ruleset ticking = (ticks, ticks_not, tick_memory, tick_stopped, refused_worn, never)
+pub ruleset taking = (take_gone, take_memory, worn_turn, never)
 
-pub ruleset closing = (closes, close_worn)
+pub ruleset ticking = (ticks, ticks_not, tick_memory, tick_stopped, worn_server, never)
+
+pub ruleset closing = (closes, close_gone, worn_close, never)

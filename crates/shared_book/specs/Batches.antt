@@ -9,6 +9,7 @@ use Rattle.serial_model.specs.declared.history.BookReply.TheVariants.{Admitted, 
 use Rattle.serial_model.specs.declared.history.BookReply.TheVariants.{Bytes, Closed, Refused}
 use Rattle.serial_model.specs.declared.history.BookRefusal.{BookRefusal}
 use Rattle.serial_model.specs.declared.history.BookRefusal.TheVariants as because
+use Rattle.serial_model.specs.History.{gives_on, runs_on}
 use Rattle.serial_model.specs.Steps.{BookStep}
 use Rattle.seat_turns.specs.Own.{Grows}
 use Rattle.shared_book.specs.Turns.{Shared, Place, Runs, Takes, IsCause}
@@ -83,7 +84,8 @@ pub record RunsFirst (id now count : ℕ) (requests : List (List (List ℕ))) (r
   pub counted : ran ≡ count + number
   pub within : number ≤ length requests
   pub each : RunsEach id now (take number requests) before after
-  pub cause_is : IsCause cause id after
+  pub cause_is : IsCause runs_on id cause after
+  pub take_is : number ≡ length requests → IsCause gives_on id cause after
 
 abbrev pub refusal_by : BookRefusal → Refusal
 refusal_by (because.Gone id) = refusal.Dropped

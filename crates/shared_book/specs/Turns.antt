@@ -1,6 +1,6 @@
 -- The server's turns, as a seat of the lock takes them.
 use Rattle.std.specs.Prelude.{◌≡◌, ◌+◌, ◌<◌, ◌≤◌, ◌⊎◌, ℕ, List, [], ◌∷◌, length, max, take}
-use Rattle.std.specs.Prelude.{Option, Some, None, true, false, ⊤}
+use Rattle.std.specs.Prelude.{Option, Some, None, Bool, true, false, ⊤}
 use Rattle.turn_lock.specs.History.{IsPrefix, past_after}
 use Rattle.turn_lock.specs.Seats.{Known}
 use Rattle.turn_lock.specs.declared.rule.TheConstants.{LAST_TICKET}
@@ -10,7 +10,7 @@ use Rattle.serial_model.specs.declared.history.Entry.{Entry}
 use Rattle.serial_model.specs.declared.history.Entry.TheVariants as entry
 use Rattle.serial_model.specs.declared.history.BookCall.{BookCall}
 use Rattle.serial_model.specs.declared.history.BookReply.{BookReply}
-use Rattle.serial_model.specs.History.{admitted, expired, gives_on, has_ended, latest, reads_on}
+use Rattle.serial_model.specs.History.{admitted, expired, gives_on, latest, reads_on, runs_on}
 use Rattle.serial_model.specs.History.{is_stopped, unsent}
 use Rattle.serial_model.specs.Steps.{BookStep}
 use Rattle.seat_turns.specs.Own.{past_of, Grows}
@@ -42,24 +42,37 @@ limits_in (Some l) = l
 abbrev pub limits_of : Place → Limits
 limits_of k = limits_in k.setup
 
--- why a connection's turn was not taken, as the seat shows it
-abbrev pub IsCause : Refusal → ℕ → Place → Type 0
-IsCause refusal.Dropped id k = has_ended (limits_of k) id (past_of k) ≡ true
-IsCause refusal.NoMemory id k = ⊤
-IsCause refusal.Worn id k = LAST_TICKET ≤ k.tickets
-IsCause refusal.Stopped id k = is_stopped (limits_of k) (past_of k) ≡ true
+-- what a connection may still do, by the history: a Run, a Take or a Close
+abbrev pub May : Type 0
+May = Limits → List Entry → ℕ → Bool
 
--- a turn was not taken
-pub record Refuses (cause : Refusal) (id : ℕ) (before after : Place) : Type 0 where
+-- why such a turn of a connection that was admitted was not taken, as the seat shows it: it has
+-- ended, so that it may not take it any more
+abbrev pub IsCause : May → ℕ → Refusal → Place → Type 0
+IsCause may id refusal.Dropped k = may (limits_of k) (past_of k) id ≡ false
+IsCause may id refusal.NoMemory k = ⊤
+IsCause may id refusal.Worn k = LAST_TICKET ≤ k.tickets
+IsCause may id refusal.Stopped k = ⊥
+
+-- a Close takes no memory
+abbrev pub IsCloseCause : ℕ → Refusal → Place → Type 0
+IsCloseCause id refusal.Dropped k = IsCause reads_on id refusal.Dropped k
+IsCloseCause id refusal.NoMemory k = ⊥
+IsCloseCause id refusal.Worn k = IsCause reads_on id refusal.Worn k
+IsCloseCause id refusal.Stopped k = ⊥
+
+-- why a turn that is of no connection was not taken
+abbrev pub IsServerCause : Refusal → Place → Type 0
+IsServerCause refusal.Dropped k = ⊥
+IsServerCause refusal.NoMemory k = ⊤
+IsServerCause refusal.Worn k = LAST_TICKET ≤ k.tickets
+IsServerCause refusal.Stopped k = is_stopped (limits_of k) (past_of k) ≡ true
+
+-- a turn was not taken, for one of these causes
+pub record Refuses (why : Refusal → Place → Type 0) (cause : Refusal) (before after : Place)
+    : Type 0 where
   pub grows : Grows before after []
-  pub cause_is : IsCause cause id after
-
--- a turn that is of no connection that was admitted is not refused for one
-abbrev pub IsServerCause : Refusal → Type 0
-IsServerCause refusal.Dropped = ⊥
-IsServerCause refusal.NoMemory = ⊤
-IsServerCause refusal.Worn = ⊤
-IsServerCause refusal.Stopped = ⊤
+  pub cause_is : why cause after
 
 pub record Admits (id : ℕ) (before after : Place) : Type 0 where
   pub past : List Entry
@@ -70,6 +83,7 @@ pub record Admits (id : ℕ) (before after : Place) : Type 0 where
 pub record Runs (id : ℕ) (words : List (List ℕ)) (now : ℕ) (before after : Place) : Type 0 where
   pub past : List Entry
   pub begins : IsPrefix (past_of before) past
+  pub on : runs_on (limits_of before) past id ≡ true
   pub grows : Grows before after ((entry.Run id words (max now (latest past)), past) ∷ [])
   pub ends : past_of after ≡ entry.Run id words (max now (latest past)) ∷ past
 
@@ -104,16 +118,13 @@ pub record Quiets (now : ℕ) (before after : Place) : Type 0 where
 abbrev pub Ticks : ℕ → Place → Place → Type 0
 Ticks now before after = Expires now before after ⊎ Quiets now before after
 
-abbrev pub closed_turns : ℕ → Option (List Entry) → List Turn
-closed_turns id None = []
-closed_turns id (Some past) = (entry.Close id, past) ∷ []
-
--- a Close, which may find that the connection has ended, or that no ticket is left
+-- a Close, also behind a QUIT
 pub record Closes (id : ℕ) (before after : Place) : Type 0 where
-  pub close : Option (List Entry)
-  pub grows : Grows before after (closed_turns id close)
-  pub over : (has_ended (limits_of before) id (past_of after) ≡ true) ⊎ (LAST_TICKET ≤
-      after.tickets)
+  pub past : List Entry
+  pub begins : IsPrefix (past_of before) past
+  pub keeps : reads_on (limits_of before) past id ≡ true
+  pub grows : Grows before after ((entry.Close id, past) ∷ [])
+  pub ends : past_of after ≡ entry.Close id ∷ past
 
 -- the most bytes of one Take
 abbrev pub most : ℕ

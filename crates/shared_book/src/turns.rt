@@ -2,11 +2,11 @@
 ghost use Rattle.std.specs.Prelude.{◌≡◌, ◌≤◌, [], true, length, IfOk, IfErr};
 ghost use Rattle.std.specs.Prelude.{OnOk};
 ghost use Rattle.turn_lock.specs.declared.rule.TheConstants.{LAST_TICKET};
-ghost use Rattle.serial_model.specs.History.{is_admitted};
+ghost use Rattle.serial_model.specs.History.{gives_on, is_admitted, runs_on};
 ghost use Rattle.serial_model.specs.Steps.{IsCallable};
 ghost use Rattle.seat_turns.specs.Own.{IsWithin, past_of};
-ghost use Rattle.shared_book.specs.Turns.{Admits, Closes, IsServerCause, Refuses};
-ghost use Rattle.shared_book.specs.Turns.{Runs, Takes, Ticks};
+ghost use Rattle.shared_book.specs.Turns.{Admits, Closes, IsCause, IsCloseCause, IsServerCause};
+ghost use Rattle.shared_book.specs.Turns.{Refuses, Runs, Takes, Ticks};
 
 use super::logged::SharedBook;
 use resp_value::{Octets, Words};
@@ -40,7 +40,7 @@ pub fn admit<R: Wait>(
     requires lock { seat.old.lock ≡ lock.now }
     requires within { IsWithin seat.old }
     ensures ok { IfOk result (λ id. Admits id seat.old seat.new) }
-    ensures err { IfErr result (λ e. Refuses e 0 seat.old seat.new × IsServerCause e) }
+    ensures err { IfErr result (λ e. Refuses IsServerCause e seat.old seat.new) }
 {
     match play(rt, lock, seat, BookCall::Admit) {
         Ok(BookReply::Admitted { id, .. }) => Ok(id),
@@ -71,7 +71,7 @@ pub fn run<R: Wait>(
     requires admitted { is_admitted (past_of seat.old) id ≡ true }
     ensures ok { IfOk result (λ entry. Runs id words now seat.old seat.new
         × (entry ≡ length seat.new.seen)) }
-    ensures err { IfErr result (λ e. Refuses e id seat.old seat.new) }
+    ensures err { IfErr result (λ e. Refuses (IsCause runs_on id) e seat.old seat.new) }
 {
     match play(rt, lock, seat, BookCall::Run { id, words, now }) {
         Ok(BookReply::Ran { entry }) => Ok(entry),
@@ -99,7 +99,7 @@ pub fn take<R: Wait>(
     requires within { IsWithin seat.old }
     requires admitted { is_admitted (past_of seat.old) id ≡ true }
     ensures ok { IfOk result (λ bytes. Takes id bytes seat.old seat.new) }
-    ensures err { IfErr result (λ e. Refuses e id seat.old seat.new) }
+    ensures err { IfErr result (λ e. Refuses (IsCause gives_on id) e seat.old seat.new) }
 {
     match play(rt, lock, seat, BookCall::Take { id, max: MOST }) {
         Ok(BookReply::Bytes { bytes, .. }) => Ok(Some(bytes)),
@@ -127,7 +127,7 @@ pub fn tick<R: Wait>(
     requires lock { seat.old.lock ≡ lock.now }
     requires within { IsWithin seat.old }
     ensures ok { OnOk result (Ticks now seat.old seat.new) }
-    ensures err { IfErr result (λ e. Refuses e 0 seat.old seat.new × IsServerCause e) }
+    ensures err { IfErr result (λ e. Refuses IsServerCause e seat.old seat.new) }
 {
     match play(rt, lock, seat, BookCall::Tick { now }) {
         Ok(BookReply::Ticked { .. }) => Ok(()),
@@ -143,16 +143,30 @@ pub fn tick<R: Wait>(
     }
 }
 
-/// Closes the connection, where it was not closed and a ticket is left; also one that quit.
+/// Closes the connection, also one that quit. It takes no memory.
 #[tactic(auto, using(crate::proofs::Outcomes::closing))]
-pub fn close<R: Wait>(rt: &R, lock: &TurnLock<SharedBook>, seat: &mut Seat<SharedBook>, id: u64)
+pub fn close<R: Wait>(
+    rt: &R,
+    lock: &TurnLock<SharedBook>,
+    seat: &mut Seat<SharedBook>,
+    id: u64,
+) -> Result<(), Refusal>
     requires lock { seat.old.lock ≡ lock.now }
     requires within { IsWithin seat.old }
     requires admitted { is_admitted (past_of seat.old) id ≡ true }
-    ensures { Closes id seat.old seat.new }
+    ensures ok { OnOk result (Closes id seat.old seat.new) }
+    ensures err { IfErr result (λ e. Refuses (IsCloseCause id) e seat.old seat.new) }
 {
     match play(rt, lock, seat, BookCall::Close { id }) {
-        Ok(_) => {}
-        Err(_) => {}
+        Ok(BookReply::Closed { .. }) => Ok(()),
+        Ok(BookReply::Refused(BookRefusal::Gone { .. })) => Err(Refusal::Dropped),
+        Ok(BookReply::Admitted { .. }) => unreachable!(),
+        Ok(BookReply::Ran { .. }) => unreachable!(),
+        Ok(BookReply::Quiet) => unreachable!(),
+        Ok(BookReply::Bytes { .. }) => unreachable!(),
+        Ok(BookReply::Ticked { .. }) => unreachable!(),
+        Ok(BookReply::Refused(BookRefusal::NoMemory)) => unreachable!(),
+        Ok(BookReply::Refused(BookRefusal::Stopped)) => unreachable!(),
+        Err(_) => Err(Refusal::Worn),
     }
 }

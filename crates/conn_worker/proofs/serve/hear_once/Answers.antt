@@ -18,9 +18,9 @@ returns-in-Err-clause-err g c =
 pub returns-in-Err-Worn-clause-err : goal.returns-in-Err-Worn-clause-err
 returns-in-Err-Worn-clause-err g c =
     let refused = rw c.in-Err-Worn.field-0-is at c.in-Err-Worn.ensures.err in
-    unticked _ _ refusal.Worn _ _ _ tt refused.0 c.in-Idle.ensures.bytes c.in-Idle.ensures.counts
+    unticked _ _ refusal.Worn _ _ _ tt refused c.in-Idle.ensures.bytes c.in-Idle.ensures.counts
 
 pub returns-in-Err-Stopped-clause-err : goal.returns-in-Err-Stopped-clause-err
 returns-in-Err-Stopped-clause-err g c =
     let refused = rw c.in-Err-Stopped.field-0-is at c.in-Err-Stopped.ensures.err in
-    unticked _ _ refusal.Stopped _ _ _ tt refused.0 c.in-Idle.ensures.bytes c.in-Idle.ensures.counts
+    unticked _ _ refusal.Stopped _ _ _ tt refused c.in-Idle.ensures.bytes c.in-Idle.ensures.counts
