@@ -13,8 +13,6 @@ pub data Part : Type 0 where
 abbrev pub unbuilt : List Part
 unbuilt =
     whole (codes "storm")
-    ∷ option (codes "script") (codes "--resp") ∷ option (codes "script") (codes "--mode")
-    ∷ option (codes "script") (codes "--prefix") ∷ option (codes "script") (codes "--noloop")
     ∷ option (codes "script") (codes "--redirect") ∷ []
 
 -- the word is this option, and perhaps its value after a `=`

@@ -3,7 +3,7 @@
 //! It looks again at what the definition of the words refused, so that a person can be told which
 //! word it was. Nothing that it finds changes a status.
 
-use super::unbuilt::{UNBUILT_OPTIONS, is_unbuilt};
+use super::unbuilt::{UNBUILT_OPTION, is_unbuilt};
 use super::wrong_words::{Wanted, WrongWords};
 
 /// What is wrong with the words behind the program's name, if anything is.
@@ -19,7 +19,7 @@ pub fn find_wrong<'a>(words: &'a [String]) -> Option<WrongWords<'a>> {
         return Some(WrongWords::UnbuiltCommand(command));
     }
     if is_unbuilt(command, rest) {
-        return Some(WrongWords::UnbuiltOption(UNBUILT_OPTIONS));
+        return Some(WrongWords::UnbuiltOption(UNBUILT_OPTION));
     }
     find_wrong_of(command, rest)
 }

@@ -354,12 +354,7 @@ fn values_are_those_of_the_words_or_the_defaults(rt: HostRuntime) -> Result<(), 
 // Words that are in the definition, with what is not built among them.
 const UNBUILT: &str = "\
 storm --number 0 --steps 0
-script --connect h:1 --resp 3
-script --connect h:1 --resp=3
-script --mode default --connect h:1
-script --mode=default --connect h:1
-script --prefix a --mode bcast --connect h:1
-script --connect h:1 --noloop
+script --connect h:1 --resp 2 --redirect
 script --redirect --connect h:1";
 
 const BUILT: &str = "\
@@ -374,7 +369,11 @@ serve --port 1 --workers 2 --connections 3 --history-max=5
 serve --port 1 --table-max=1
 script --connect h:1
 script --connect=h:1 --capacity=5
-script --connect=--mode:1";
+script --connect h:1 --resp=3
+script --mode optin --connect h:1 --noloop
+script --mode=optout --connect h:1
+script --prefix a --mode bcast --connect h:1
+script --connect=--redirect:1";
 
 /// Whether each row asks for something that is built, or does not.
 fn are_built(alloc: Global, rows: &str, is_built: bool) -> Result<bool, NoMemory> {
@@ -411,12 +410,18 @@ fn what_is_wrong_is_said_of_the_first_wrong_word(rt: HostRuntime) -> Result<(), 
         ("--help", "\"--help\" is no command"),
         ("storm --number 1", "the command storm is not built yet"),
         (
-            "script --connect h:1 --mode optin",
-            "not built yet: --resp, --mode, --prefix, --noloop and --redirect",
+            "script --connect h:1 --redirect",
+            "not built yet: --redirect",
+        ),
+        ("script --noloop", "--connect is missing"),
+        ("script --connect h:1 --resp 2", "--resp 2 needs --redirect"),
+        (
+            "script --connect h:1 --prefix a",
+            "--prefix needs --mode bcast",
         ),
         (
-            "script --noloop",
-            "not built yet: --resp, --mode, --prefix, --noloop and --redirect",
+            "script --connect h:1 --mode broadcast",
+            "\"broadcast\" is no value of --mode, which takes default, optin, optout or bcast",
         ),
         ("serve --workers 5", "--port is missing"),
         ("script --capacity 5", "--connect is missing"),

@@ -1,5 +1,5 @@
 //! The one table of what the words can ask for and the program does not do yet.
-ghost use Rattle.std.specs.Prelude.{◌≡◌, codes, map, string_bytes};
+ghost use Rattle.std.specs.Prelude.{◌≡◌, map, string_bytes};
 ghost use Rattle.std.specs.List.{list_any};
 ghost use Rattle.command_line.specs.Unbuilt.{names_unbuilt, writes_option};
 
@@ -9,23 +9,13 @@ pub fn is_unbuilt(command: &str, words: &[String]) -> bool
 {
     match command {
         "storm" => true,
-        "script" => names_script_option(words),
+        "script" => has_option(words, "--redirect"),
         _ => false,
     }
 }
 
-/// The options that are not built, all of them of `script`, as a person is told them.
-pub const UNBUILT_OPTIONS: &str = "--resp, --mode, --prefix, --noloop and --redirect";
-
-fn names_script_option(words: &[String]) -> bool
-    ensures { result ≡ names_unbuilt (codes "script") (map string_bytes words.now) }
-{
-    has_option(words, "--resp")
-        || has_option(words, "--mode")
-        || has_option(words, "--prefix")
-        || has_option(words, "--noloop")
-        || has_option(words, "--redirect")
-}
+/// The option that is not built, as a person is told it.
+pub const UNBUILT_OPTION: &str = "--redirect";
 
 fn has_option(words: &[String], name: &str) -> bool
     ensures { result ≡ list_any (writes_option name.now) (map string_bytes words.now) }

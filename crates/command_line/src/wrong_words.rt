@@ -9,7 +9,8 @@ pub const FORMS: &str = "\
 usage: zeovalki world [--table-max N] [--out-max N] [--history-max N] < SCHEDULE
        zeovalki serve --port N [--workers N] [--connections N]
                       [--table-max N] [--out-max N] [--history-max N]
-       zeovalki script --connect HOST:PORT [--capacity N] < SCRIPT
+       zeovalki script --connect HOST:PORT [--mode MODE] [--prefix P] [--noloop]
+                       [--resp 3] [--capacity N] < SCRIPT
 An option is --name value or --name=value, each at most once.
 ";
 

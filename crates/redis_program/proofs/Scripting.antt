@@ -5,6 +5,8 @@ use Rattle.std.specs.declared.option.Option.{Option}
 use Rattle.edge_links.specs.declared.counts.Counts.{Counts}
 use Rattle.edge_links.specs.Counts.{Counted}
 use Rattle.edge_lines.specs.declared.lines.SinkFailed.{SinkFailed}
+use Rattle.command_line.specs.declared.settings.ScriptSettings.{ScriptSettings}
+use Rattle.shared_cache.specs.Held.{Setup}
 use Rattle.script_program.specs.declared.run.ScriptEnd.{ScriptEnd}
 use Rattle.script_program.specs.declared.run.ScriptEnd.TheVariants as end
 use Rattle.script_program.specs.declared.run.ScriptSession.{ScriptSession}
@@ -15,12 +17,12 @@ use Rattle.redis_program.specs.declared.status.Status.TheVariants as status
 use Rattle.redis_program.specs.Playing.{LastGives}
 use Rattle.redis_program.specs.Scripting.{ScriptGives, script_status}
 
-module _ {L : Type 0} (left contents : L → Option (List ℕ)) (counts : L → Counts) (capacity : ℕ)
+module _ {L : Type 0} (left contents : L → Option (List ℕ)) (counts : L → Counts) (client : Setup)
     (input : Option (List ℕ)) (session : Option (ScriptSession L)) (in0 in1 net0 net1 : Counts)
     (out0 out1 : Option (List ℕ)) where
   abbrev Written : Result ScriptEnd SinkFailed → Type 0
   Written r =
-      WritesScript left contents counts capacity input session r in0 in1 net0 net1 out0 out1
+      WritesScript left contents counts client input session r in0 in1 net0 net1 out0 out1
 
   rests_of : (e : ScriptEnd) → Written (Ok e) → EndRests e in0 in1 net0 net1
   rests_of e w = subst (λ x. EndRests x in0 in1 net0 net1) (sym w.writes.0) w.rests
@@ -40,11 +42,11 @@ module _ {L : Type 0} (left contents : L → Option (List ℕ)) (counts : L → 
 
 -- where memory for the words is wanting, what is answered is what a script may come to as well
 pub wordless_script : {L : Type 0} (answer : Status) (old new : Option (List ℕ)) (k0 k1 : Counts)
-    → LastGives ending.NoMemory answer old new k0 k1 → (capacity : ℕ)
+    → LastGives ending.NoMemory answer old new k0 k1 → (s : ScriptSettings)
     (left contents : L → Option (List ℕ)) (counts : L → Counts) (input : Option (List ℕ))
     (source net : Counts)
-    → ScriptGives capacity left contents counts input None answer source source net net old new
-wordless_script answer old new k0 k1 last capacity left contents counts input source net =
+    → ScriptGives s left contents counts input None answer source source net net old new
+wordless_script answer old new k0 k1 last s left contents counts input source net =
     elim last [
       | inl h ↦ gives (Ok end.NoMemory) h.0 (refl, h.1)
       | inr (inl h) ↦ gives (Ok end.NoMemory) h.0 (refl, h.1)
@@ -54,7 +56,7 @@ wordless_script answer old new k0 k1 last capacity left contents counts input so
   where
     gives : (r : Result ScriptEnd SinkFailed) → answer ≡ script_status r
         → EndWrites r end.NoMemory [] old new
-        → ScriptGives capacity left contents counts input None answer source source net net old new
+        → ScriptGives s left contents counts input None answer source source net net old new
     gives r is wrote = record {
       end = r;
       status = is;

@@ -86,7 +86,7 @@ pub fn run<R: Threads + Wait + Eprint + Sync, S: Source, K: Sink, N: Net, C: Clo
         (K.contents output.old) (K.contents output.new) (N.counts net.old) (N.counts net.new) }
     ensures script { (settings : ScriptSettings)
         → command_of (map string_bytes words.now) ≡ Some (asked.Script settings)
-        → ScriptGives settings.capacity N.Link.left N.Link.contents N.Link.counts
+        → ScriptGives settings N.Link.left N.Link.contents N.Link.counts
         (S.left input.old) result.session result.status
         (S.counts input.old) (S.counts input.new) (N.counts net.old) (N.counts net.new)
         (K.contents output.old) (K.contents output.new) }

@@ -102,7 +102,7 @@ fn a_run_writes_the_transcript_and_the_last_line_of_its_status(
             "usage\n",
         ),
         (
-            "script --connect h:1 --mode optin",
+            "script --connect h:1 --resp 2",
             "",
             Status::Usage,
             "usage\n",

@@ -22,8 +22,17 @@ fn bytes_of(alloc: Global, text: &str) -> Result<Vec<u8>, AllocError> {
     Ok(bytes)
 }
 
-/// A client of ten keys, with a log of so many entries.
+/// A client of ten keys in default mode, with a log of so many entries.
 fn setup_of(log_max: u64) -> ClientSetup
+    ensures mode { IsOneLink result.mode }
+    ensures capacity { result.capacity ≡ 10 }
+    ensures log_max { 0 < result.log_max }
+{
+    setup_in(Caching::Default, false, log_max)
+}
+
+/// The same in another mode.
+fn setup_in(caching: Caching, noloop: bool, log_max: u64) -> ClientSetup
     ensures mode { IsOneLink result.mode }
     ensures capacity { result.capacity ≡ 10 }
     ensures log_max { 0 < result.log_max }
@@ -32,8 +41,8 @@ fn setup_of(log_max: u64) -> ClientSetup
         mode: ClientMode {
             shape: Shape::Single,
             proto: Proto::Three,
-            caching: Caching::Default,
-            noloop: false,
+            caching,
+            noloop,
         },
         capacity: 10,
         log_max: log_max.max(1),

@@ -9,6 +9,7 @@ use Rattle.edge_lines.specs.declared.lines.SinkFailed.{SinkFailed}
 use Rattle.edge_lines.specs.Streams.{AppendsFirst}
 use Rattle.edge_lines.specs.TextLines.{text_lines}
 use Rattle.edge_lines.proofs.Bytes.{first_longer}
+use Rattle.shared_cache.specs.Held.{Setup}
 use Rattle.client_link.specs.declared.pump_end.PumpEnd.{PumpEnd}
 use Rattle.client_link.specs.Pumps.{end_number}
 use Rattle.script_text.specs.declared.script_line.ScriptLine.{ScriptLine}
@@ -35,12 +36,12 @@ pub reported : (lines : List ScriptLine) (answers : List (List Answer)) (pump : 
 reported lines answers pump x text t e = grind (arith, append-nil)
 
 pub played_writes : {L : Type 0} (left contents : L → Option (List ℕ)) (counts : L → Counts)
-    (capacity : ℕ) (lines : List ScriptLine) (input : Option (List ℕ))
+    (client : Setup) (lines : List ScriptLine) (input : Option (List ℕ))
     (session : Option (ScriptSession L)) (answer : Result ScriptEnd SinkFailed)
     (in0 in1 net0 net1 : Counts) (out0 out1 : Option (List ℕ))
-    → SessionWrites left contents counts capacity lines session answer out0 out1
+    → SessionWrites left contents counts client lines session answer out0 out1
     → IfSome input (λ bytes. script_of 1 (text_lines bytes) ≡ Ok lines) → EndCounted in0 in1
     → net1 ≡ net0
-    → WritesScript left contents counts capacity input session answer in0 in1 net0 net1 out0 out1
-played_writes left contents counts capacity lines input session answer in0 in1 net0 net1 out0 out1
+    → WritesScript left contents counts client input session answer in0 in1 net0 net1 out0 out1
+played_writes left contents counts client lines input session answer in0 in1 net0 net1 out0 out1
     w known counted net = grind arith

@@ -1,11 +1,10 @@
 -- What the run of a script comes to, what it writes, and what its end rests on.
 use Rattle.std.specs.Prelude.{◌≡◌, ◌≤◌, ◌++◌, ◌⊎◌, ⊤, ℕ, List, [], codes, Option, Some, None}
 use Rattle.std.specs.Prelude.{Result, Ok, Err}
-use Rattle.std.specs.Prelude.{IfSome, false, true}
+use Rattle.std.specs.Prelude.{IfSome, true}
 use Rattle.std.specs.Fmt.{decimal}
 use Rattle.std.specs.Io.KnownBytes.{Appends}
 use Rattle.resp_value.specs.Lists.{IsPrefix}
-use Rattle.resp_value.specs.declared.value.Proto.TheVariants.{Three}
 use Rattle.edge_links.specs.declared.counts.Counts.{Counts}
 use Rattle.edge_links.specs.Counts.{Counted, FaultCounted, nought}
 use Rattle.edge_lines.specs.declared.lines.SinkFailed.{SinkFailed}
@@ -15,8 +14,6 @@ use Rattle.turn_lock.specs.declared.rule.TheConstants.{LAST_TICKET}
 use Rattle.shared_cache.specs.Held.{Setup}
 use Rattle.shared_cache.specs.Steps.{is_log_full}
 use Rattle.shared_cache.specs.declared.log.LogEntry.{LogEntry}
-use Rattle.shared_cache.specs.declared.log.Shape.TheVariants.{Single}
-use Rattle.shared_cache.specs.declared.log.Caching.TheVariants.{Default}
 use Rattle.client_link.specs.declared.pump_end.PumpEnd.{PumpEnd}
 use Rattle.client_link.specs.Pumps.{EndCounts, end_number}
 use Rattle.script_text.specs.declared.script_line.ScriptLine.{ScriptLine}
@@ -31,18 +28,6 @@ use Rattle.script_program.specs.declared.run.ScriptEnd.{ScriptEnd}
 use Rattle.script_program.specs.declared.run.ScriptEnd.TheVariants as end
 use Rattle.script_program.specs.declared.run.ScriptSession.{ScriptSession}
 use Rattle.script_program.specs.Scripts.{script_of}
-
--- the most entries of a client's log
-abbrev pub log_max : ℕ
-log_max = 4000000
-
--- a client of one link on RESP3 in default mode
-abbrev pub client_of : ℕ → Setup
-client_of capacity = record {
-  mode = record { shape = Single; proto = Three; caching = Default; noloop = false };
-  capacity = capacity;
-  log_max = log_max;
-}
 
 -- ---- what is written
 
@@ -84,16 +69,16 @@ EndShows ended.NoMemory s log tickets = ⊤
 
 -- These lines were played over a link that was new, and the text tells of it.
 pub record PlaysScript {L : Type 0} (left contents : L → Option (List ℕ)) (counts : L → Counts)
-    (capacity : ℕ) (lines : List ScriptLine) (s : ScriptSession L) (e : SessionEnd) (text : List ℕ)
-    : Type 0 where
+    (client : Setup) (lines : List ScriptLine) (s : ScriptSession L) (e : SessionEnd)
+    (text : List ℕ) : Type 0 where
   pub link : L
   pub fresh : counts link ≡ nought
   pub answers : List (List Answer)
-  pub session : Session (client_of capacity) lines answers s.pump (left link) (left s.link)
-      (contents link) (contents s.link) s.client.state.past s.client.tickets
+  pub session : Session client lines answers s.pump (left link) (left s.link) (contents link)
+      (contents s.link) s.client.state.past s.client.tickets
   pub counted : EndCounts s.pump (counts link) (counts s.link)
   pub reported : Reports lines answers s.pump e text
-  pub shown : EndShows e (client_of capacity) s.client.state.past s.client.tickets
+  pub shown : EndShows e client s.client.state.past s.client.tickets
 
 -- an end before anything is played
 abbrev pub NotPlayed : ScriptEnd → Type 0
@@ -110,29 +95,29 @@ NoneWritten e answer old new = EndWrites answer e [] old new
 
 -- a session of these lines was played and written of; or none was, for want of memory
 abbrev pub SessionWrites : {L : Type 0} → (L → Option (List ℕ)) → (L → Option (List ℕ))
-    → (L → Counts) → ℕ → List ScriptLine → Option (ScriptSession L) → Result ScriptEnd SinkFailed
-    → Option (List ℕ) → Option (List ℕ) → Type 0
-SessionWrites left contents counts capacity lines None answer old new =
+    → (L → Counts) → Setup → List ScriptLine → Option (ScriptSession L)
+    → Result ScriptEnd SinkFailed → Option (List ℕ) → Option (List ℕ) → Type 0
+SessionWrites left contents counts client lines None answer old new =
     EndWrites answer end.NoMemory [] old new
-SessionWrites left contents counts capacity lines (Some s) answer old new =
+SessionWrites left contents counts client lines (Some s) answer old new =
     (e : SessionEnd) × (text : List ℕ)
-    × PlaysScript left contents counts capacity lines s e text
+    × PlaysScript left contents counts client lines s e text
     × EndWrites answer (end.Played e) text old new
 
 -- What a run came to that read this input, where it is known. Nothing was played where a line is
 -- outside the grammar, the first of which is told, nor where there is no session.
 abbrev pub Comes : {L : Type 0} → (L → Option (List ℕ)) → (L → Option (List ℕ)) → (L → Counts)
-    → ℕ → Option (List ℕ) → Option (ScriptSession L) → ScriptEnd → List ℕ → Type 0
-Comes left contents counts capacity input None (end.Played e) text = ⊥
-Comes left contents counts capacity input None (end.BadLine number) text =
+    → Setup → Option (List ℕ) → Option (ScriptSession L) → ScriptEnd → List ℕ → Type 0
+Comes left contents counts client input None (end.Played e) text = ⊥
+Comes left contents counts client input None (end.BadLine number) text =
     (text ≡ []) × IfSome input (λ bytes. script_of 1 (text_lines bytes) ≡ Err number)
-Comes left contents counts capacity input None end.ReadFault text = text ≡ []
-Comes left contents counts capacity input None end.NetFault text = text ≡ []
-Comes left contents counts capacity input None end.NoMemory text = text ≡ []
-Comes left contents counts capacity input (Some s) (end.Played e) text =
-    (lines : List ScriptLine) × PlaysScript left contents counts capacity lines s e text
+Comes left contents counts client input None end.ReadFault text = text ≡ []
+Comes left contents counts client input None end.NetFault text = text ≡ []
+Comes left contents counts client input None end.NoMemory text = text ≡ []
+Comes left contents counts client input (Some s) (end.Played e) text =
+    (lines : List ScriptLine) × PlaysScript left contents counts client lines s e text
     × IfSome input (λ bytes. script_of 1 (text_lines bytes) ≡ Ok lines)
-Comes left contents counts capacity input (Some s) e text = ⊥
+Comes left contents counts client input (Some s) e text = ⊥
 
 -- What the counts of the source and of the net say: a session is played, and the net dials, only
 -- where the source has counted its end.
@@ -145,11 +130,11 @@ EndRests end.NoMemory in0 in1 net0 net1 = (in1.faults ≡ in0.faults) × (net1 �
 
 -- the run came to this end, and wrote of it
 pub record WritesScript {L : Type 0} (left contents : L → Option (List ℕ)) (counts : L → Counts)
-    (capacity : ℕ) (input : Option (List ℕ)) (session : Option (ScriptSession L))
+    (client : Setup) (input : Option (List ℕ)) (session : Option (ScriptSession L))
     (answer : Result ScriptEnd SinkFailed) (in0 in1 net0 net1 : Counts)
     (out0 out1 : Option (List ℕ)) : Type 0 where
   pub end : ScriptEnd
   pub text : List ℕ
-  pub comes : Comes left contents counts capacity input session end text
+  pub comes : Comes left contents counts client input session end text
   pub rests : EndRests end in0 in1 net0 net1
   pub writes : EndWrites answer end text out0 out1

@@ -3,19 +3,19 @@ ghost use Rattle.std.specs.Prelude.{◌≡◌, ◌<◌, ◌≤◌, [], None, OnE
 ghost use Rattle.std.specs.List.{All};
 ghost use Rattle.edge_links.specs.Counts.{Counted, nought};
 ghost use Rattle.script_text.specs.Scripts.{IsValidLine};
+ghost use Rattle.shared_cache.specs.ClientFields.{IsOneLink};
 ghost use Rattle.shared_client.specs.Setups.{setup_of};
 ghost use Rattle.script_program.specs.declared.run.ScriptEnd.TheVariants as ended;
-ghost use Rattle.script_program.specs.Written.{client_of, end_line, EndWrites, NoneWritten};
+ghost use Rattle.script_program.specs.Written.{end_line, EndWrites, NoneWritten};
 ghost use Rattle.script_program.specs.Written.{NotPlayed, SessionWrites, WritesScript};
 
 use super::read::{ScriptRead, read_script};
 use client_link::PumpEnd;
 use edge_lines::{SinkFailed, write_all};
 use edge_links::{Link, Net, NetFailed, Sink, Source};
-use resp_value::{NoMemory, Proto};
+use resp_value::NoMemory;
 use script_run::{Played, SessionEnd, play_script, report};
 use script_text::ScriptLine;
-use shared_cache::{Caching, ClientMode, Shape};
 use shared_client::{ClientSetup, SharedClient};
 use std::alloc::Global;
 use std::sync::Wait;
@@ -52,39 +52,23 @@ pub struct WrittenScript<L> {
     pub end: Result<ScriptEnd, SinkFailed>,
 }
 
-/// The most entries of a client's log.
-const LOG_MAX: u64 = 4_000_000;
-
-// The setup of the client: one link, RESP3, default mode.
-fn setup(capacity: u64) -> ClientSetup
-    ensures { setup_of result ≡ client_of capacity }
-{
-    ClientSetup {
-        mode: ClientMode {
-            shape: Shape::Single,
-            proto: Proto::Three,
-            caching: Caching::Default,
-            noloop: false,
-        },
-        capacity,
-        log_max: LOG_MAX,
-    }
-}
-
-/// Reads the script of the source, plays it over a link that the net dials, and writes the answers
-/// and then the last line. Nothing is dialled unless all lines are in the grammar.
+/// Reads the script of the source, plays it on a client of that setup over a link that the net
+/// dials, and writes the answers and then the last line. Nothing is dialled unless all lines are in
+/// the grammar.
 pub fn play_and_write<R: Threads + Wait + Sync, S: Source, K: Sink, N: Net>(
     rt: &R,
     alloc: Global,
-    capacity: u64,
+    setup: ClientSetup,
     host: &str,
     port: u16,
     input: &mut S,
     output: &mut K,
     net: &mut N,
 ) -> WrittenScript<N::Link>
-    requires { (0 < capacity) × (capacity ≤ 1000000) }
-    ensures writes { WritesScript N.Link.left N.Link.contents N.Link.counts capacity
+    requires mode { IsOneLink setup.mode }
+    requires capacity { (0 < setup.capacity) × (setup.capacity ≤ 1000000) }
+    requires log_max { 0 < setup.log_max }
+    ensures writes { WritesScript N.Link.left N.Link.contents N.Link.counts (setup_of setup)
         (S.left input.old) result.session result.end (S.counts input.old) (S.counts input.new)
         (N.counts net.old) (N.counts net.new) (K.contents output.old) (K.contents output.new) }
     ensures write { OnErr result.end
@@ -97,7 +81,7 @@ pub fn play_and_write<R: Threads + Wait + Sync, S: Source, K: Sink, N: Net>(
         ScriptRead::NoMemory => return unplayed(alloc, ScriptEnd::NoMemory, output),
     };
     match net.dial(host, port) {
-        Ok(link) => play_over(rt, alloc, capacity, lines, link, output),
+        Ok(link) => play_over(rt, alloc, setup, lines, link, output),
         Err(NetFailed) => unplayed(alloc, ScriptEnd::NetFault, output),
     }
 }
@@ -137,20 +121,22 @@ fn write_last<K: Sink>(end: ScriptEnd, line: &[u8], output: &mut K) -> Result<Sc
 fn play_over<R: Threads + Wait + Sync, K: Sink, L: Link + Send + Drop>(
     rt: &R,
     alloc: Global,
-    capacity: u64,
+    setup: ClientSetup,
     lines: Vec<ScriptLine>,
     link: L,
     output: &mut K,
 ) -> WrittenScript<L>
-    requires capacity { (0 < capacity) × (capacity ≤ 1000000) }
+    requires mode { IsOneLink setup.mode }
+    requires capacity { (0 < setup.capacity) × (setup.capacity ≤ 1000000) }
+    requires log_max { 0 < setup.log_max }
     requires lines { All IsValidLine lines.items }
     requires fresh { L.counts link ≡ nought }
-    ensures writes { SessionWrites L.left L.contents L.counts capacity lines.items result.session
-        result.end (K.contents output.old) (K.contents output.new) }
+    ensures writes { SessionWrites L.left L.contents L.counts (setup_of setup) lines.items
+        result.session result.end (K.contents output.old) (K.contents output.new) }
     ensures write { OnErr result.end
         (Counted (K.counts output.old).faults (K.counts output.new).faults) }
 {
-    let Ok(played) = play_script(rt, alloc, setup(capacity), lines, link) else {
+    let Ok(played) = play_script(rt, alloc, setup, lines, link) else {
         return unplayed(alloc, ScriptEnd::NoMemory, output);
     };
     let Played {

@@ -148,7 +148,7 @@ fn play<R: Threads + Wait + Eprint + Sync>(
 }
 
 /// Options, a script, the steps of its link, the status, what is printed, and what is sent behind
-/// the handshake.
+/// the first words of the handshake, CLIENT TRACKING ON.
 const ROWS: &str = "\
 --connect cache:a:7 = 1 ask GET foo,1 ask GET foo = 60,%0;+OK;,82,_;,83 = 0 \
 = 1 answer 3 _\\r\\n;2 hit 3 _\\r\\n; = *2;$3;GET;$3;foo;
@@ -183,8 +183,26 @@ const ROWS: &str = "\
 --connect cache:a:7 = 1 do SET a 1,9 ask GET a = 60,%0;+OK;,87,+OK;,88 = 3 = bad-line 2; = none
 --connect cache:a:7 = 1 do SET a 1,1 ask SET a 1 = 60,%0;+OK;,87,+OK;,88 = 3 = bad-line 2; = none
 --connect cache:a:7 = 1 do SET a 1,1 do HELLO 3 = 60,%0;+OK;,87,+OK;,88 = 3 = bad-line 2; = none
---connect cache:a:7 --resp 3 = 1 do SET a 1 = 60,%0;+OK;,87,+OK;,88 = 2 = usage; = none
---connect cache:a:7 --noloop = 1 do SET a 1 = 60,%0;+OK;,87,+OK;,88 = 2 = usage; = none
+--connect cache:a:7 --mode optin = 1 ask GET foo,1 ask GET foo = 71,%0;+OK;,131,+OK;_;,132 = 0 \
+= 1 answer 4 _\\r\\n;2 hit 4 _\\r\\n; \
+= $5;OPTIN;*3;$6;CLIENT;$7;CACHING;$3;YES;*2;$3;GET;$3;foo;
+--connect cache:a:7 --mode=optout = 1 do GET foo,1 ask GET foo \
+= 72,%0;+OK;,131,+OK;_;,153,_;,154 = 0 = 1 answer _\\r\\n;2 answer 5 _\\r\\n; \
+= $6;OPTOUT;*3;$6;CLIENT;$7;CACHING;$2;NO;*2;$3;GET;$3;foo;*2;$3;GET;$3;foo;
+--connect cache:a:7 --mode bcast = 1 ask GET foo,1 ask GET foo = 71,%0;+OK;,93,_;,94 = 0 \
+= 1 answer 3 _\\r\\n;2 hit 3 _\\r\\n; = $5;BCAST;*2;$3;GET;$3;foo;
+--prefix f --mode bcast --noloop --connect cache:a:7 = 1 ask GET foo,1 ask GET foo,1 ask GET bar,\
+1 ask GET bar = 102,%0;+OK;,124,_;,146,_;,168,_;,169 = 0 = 1 answer 3 _\\r\\n;2 hit 3 _\\r\\n;\
+3 answer 4 _\\r\\n;4 answer 5 _\\r\\n; = $5;BCAST;$6;PREFIX;$1;f;$6;NOLOOP;\
+*2;$3;GET;$3;foo;*2;$3;GET;$3;bar;*2;$3;GET;$3;bar;
+--connect cache:a:7 --resp 3 --noloop = 1 do SET a 1 = 72,%0;+OK;,99,+OK;,100 = 0 \
+= 1 answer +OK\\r\\n; = $6;NOLOOP;*3;$3;SET;$1;a;$1;1;
+--connect cache:a:7 --mode optin = 1 ask GET foo,2 do PING = 71,%0;-ERR no;,72 = 8 \
+= 1 down;2 down;link-ended main 4; = $5;OPTIN;
+--connect cache:a:7 --resp 2 = 1 do SET a 1 = 60,%0;+OK;,87,+OK;,88 = 2 = usage; = none
+--connect cache:a:7 --prefix a = 1 do SET a 1 = 60,%0;+OK;,87,+OK;,88 = 2 = usage; = none
+--connect cache:a:7 --mode bcast --prefix= = 1 do SET a 1 = 71,%0;+OK; = 2 = usage; = none
+--connect cache:a:7 --redirect = 1 do SET a 1 = 60,%0;+OK;,87,+OK;,88 = 2 = usage; = none
 --capacity 5 = 1 do SET a 1 = 60,%0;+OK;,87,+OK;,88 = 2 = usage; = none";
 
 #[test]

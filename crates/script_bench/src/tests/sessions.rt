@@ -3,10 +3,12 @@ ghost use Rattle.std.specs.Prelude.{◌≡◌, IfOk, length};
 ghost use Rattle.std.specs.List.{All};
 ghost use Rattle.script_text.specs.Scripts.{IsValidLine, most_threads};
 
-use super::{bytes_of, setup_of};
+use super::{bytes_of, setup_in};
 use edge_links::{LinkStep, MemoryLink};
+use resp_value::{Octets, Words};
 use script_run::*;
 use script_text::{ScriptLine, read_script_line};
+use shared_cache::Caching;
 use std::alloc::{AllocError, Global};
 use std::test::Fail;
 
@@ -43,6 +45,23 @@ fn lines_of(alloc: Global, text: &str) -> Result<Vec<ScriptLine>, AllocError>
     Ok(lines)
 }
 
+/// How the server is asked to track: a mode, and prefixes behind `bcast`.
+fn caching_of(alloc: Global, text: &str) -> Result<Caching, Fail> {
+    let (name, prefixes) = text.split_once(" ").unwrap_or((text, ""));
+    Ok(match name {
+        "optin" => Caching::OptIn,
+        "optout" => Caching::OptOut,
+        "bcast" => {
+            let mut words = Words::new(alloc);
+            for prefix in prefixes.split(' ').filter(|prefix| !prefix.is_empty()) {
+                words.push(Octets::from_slice(alloc, prefix.as_bytes())?)?;
+            }
+            Caching::Bcast(words)
+        }
+        _ => Caching::Default,
+    })
+}
+
 /// Scripts, the steps of their links, the most entries, what is printed, how the session ends and
 /// the number of its pump's end.
 const ROWS: &str = "\
@@ -55,6 +74,18 @@ const ROWS: &str = "\
 1 do GET a,2 do GET a = 60,%0;+OK;,both,$1;1;$1;1;,101 = 100 \
 = 1 answer $1\\r\\n1\\r\\n;2 answer $1\\r\\n1\\r\\n; = Done 5
 1 ask GET foo = 60,%0;+OK;,82,_; = 1 = 1 down; = HistoryFull 7";
+
+/// The same in other modes, which come first.
+const MODES: &str = "\
+bcast a bc = 1 ask GET apple,1 ask GET bcd,1 ask GET bad,1 ask GET apple,1 ask GET bcd,\
+1 ask GET bad = 110,%0;+OK;,134,_;,156,_;,178,_;,200,_;,201 = 100 \
+= 1 answer 3 _\\r\\n;2 answer 4 _\\r\\n;3 answer 5 _\\r\\n;4 hit 3 _\\r\\n;5 hit 4 _\\r\\n;\
+6 answer 6 _\\r\\n; = Done 5
+optin = 1 ask GET foo,1 ask GET foo = 71,%0;+OK;,131,+OK;_;,132 = 100 \
+= 1 answer 4 _\\r\\n;2 hit 4 _\\r\\n; = Done 5
+optout = 1 do GET foo,1 ask GET foo,1 ask GET foo = 72,%0;+OK;,131,+OK;_;,153,_;,154 = 100 \
+= 1 answer _\\r\\n;2 answer 5 _\\r\\n;3 hit 5 _\\r\\n; = Done 5
+optin = 1 ask GET foo,2 do PING = 71,%0;-ERR no;,72 = 100 = 1 down;2 down; = LinkEnded(4) 4";
 
 /// A text in which each LF is a `;`.
 fn shown(alloc: Global, text: &[u8]) -> Result<String, AllocError> {
@@ -90,28 +121,48 @@ fn told(alloc: Global, played: &mut Played<MemoryLink>) -> Result<(String, Strin
 fn said<R: std::thread::Threads + std::sync::Wait + Sync>(
     rt: &R,
     alloc: Global,
+    caching: Caching,
     script: &str,
     steps: &str,
     log_max: u64,
 ) -> Result<(String, String), Fail> {
     let lines = lines_of(alloc, script)?;
     let link = MemoryLink::new(alloc, 1000, steps_of(alloc, steps)?)?;
-    let mut played = play_script(rt, alloc, setup_of(log_max), lines, link)?;
+    let setup = setup_in(caching, false, log_max);
+    let mut played = play_script(rt, alloc, setup, lines, link)?;
     told(alloc, &mut played)
+}
+
+/// Whether the script of a row comes to what stands there.
+fn is_played<R: std::thread::Threads + std::sync::Wait + Sync>(
+    rt: &R,
+    alloc: Global,
+    mode: &str,
+    row: &str,
+) -> Result<bool, Fail> {
+    let mut parts = row.split(" = ");
+    let script = parts.next().unwrap_or("");
+    let steps = parts.next().unwrap_or("");
+    let most = parts.next().unwrap_or("").parse::<u64>().unwrap_or(0);
+    let want = parts.next().unwrap_or("");
+    let end = parts.next().unwrap_or("");
+    let came = said(rt, alloc, caching_of(alloc, mode)?, script, steps, most)?;
+    Ok(came.0.as_str() == want && came.1.as_str() == end)
 }
 
 #[test]
 fn a_session_prints_what_its_lines_came_to(rt: HostRuntime) -> Result<(), Fail> {
     for row in ROWS.lines() {
-        let mut parts = row.split(" = ");
-        let script = parts.next().unwrap_or("");
-        let steps = parts.next().unwrap_or("");
-        let most = parts.next().unwrap_or("").parse::<u64>().unwrap_or(0);
-        let want = parts.next().unwrap_or("");
-        let end = parts.next().unwrap_or("");
-        let came = said(&rt, rt.alloc(), script, steps, most)?;
-        assert!(rt; came.0.as_str() == want, "{row}: {}", came.0);
-        assert!(rt; came.1.as_str() == end, "{row}: {}", came.1);
+        assert!(rt; is_played(&rt, rt.alloc(), "default", row)?, "{row}");
+    }
+    Ok(())
+}
+
+#[test]
+fn a_session_caches_as_its_mode_says(rt: HostRuntime) -> Result<(), Fail> {
+    for row in MODES.lines() {
+        let (mode, row) = row.split_once(" = ").unwrap_or((row, ""));
+        assert!(rt; is_played(&rt, rt.alloc(), mode, row)?, "{mode}: {row}");
     }
     Ok(())
 }

@@ -61,7 +61,7 @@ returns-in-Err-clause-serve g c = λ settings e.
 pub returns-in-Err-clause-script : goal.returns-in-Err-clause-script
 returns-in-Err-clause-script g c = λ settings e.
     wordless_script c.write_no_memory.result (g.K.Sink.contents c.args.output.now)
-    (g.K.Sink.contents c.write_no_memory.new.output) _ _ c.write_no_memory.ensures settings.capacity
+    (g.K.Sink.contents c.write_no_memory.new.output) _ _ c.write_no_memory.ensures settings
     g.N.Link.Link.left g.N.Link.Link.contents g.N.Link.Link.counts
     (g.S.Source.left c.args.input.now) (g.S.Source.counts c.args.input.now)
     (g.N.Net.counts c.args.net.now)

@@ -1,8 +1,8 @@
 use Rattle.std.proofs.Common.{◌++◌, ◌≡◌, subst, ap, ◌∙◌, sym}
-use Rattle.script_run.specs.Session.{Session}
+use Rattle.shared_client.specs.Setups.{setup_of}
 use Rattle.script_run.specs.Reports.{ends_of, no_tally, text_after}
 use Rattle.script_program.specs.declared.run.ScriptEnd.TheVariants as ended
-use Rattle.script_program.specs.Written.{EndWrites, Reports, client_of}
+use Rattle.script_program.specs.Written.{EndWrites, Reports}
 use Rattle.script_program.proofs.Ending.{end_shows}
 use Rattle.script_program.proofs.Writing.{reported as reports_of}
 use Rattle.script_program.proofs.run.play_over.Goals as goal
@@ -33,26 +33,20 @@ returns-clause-writes g c =
           )
     ] in
     let reported : Reports c.args.lines.items answers played.pump c.match-report.end text =
-    subst (λ ls. Reports ls answers played.pump c.match-report.end text) same told in
-    let session : Session (client_of c.args.capacity) c.args.lines.items answers played.pump
-    (g.L.Link.left c.args.link) (g.L.Link.left played.link) (g.L.Link.contents c.args.link)
-    (g.L.Link.contents played.link) played.client.state.past played.client.tickets =
-    subst (λ s. Session s c.args.lines.items answers played.pump (g.L.Link.left c.args.link)
-    (g.L.Link.left played.link) (g.L.Link.contents c.args.link) (g.L.Link.contents played.link)
-    played.client.state.past played.client.tickets) c.setup.ensures known.session in (
+    subst (λ ls. Reports ls answers played.pump c.match-report.end text) same told in (
       c.match-report.end,
       text,
       record {
         link = c.args.link;
         fresh = c.requires.fresh;
         answers = answers;
-        session = session;
+        session = known.session;
         counted = known.counts;
         reported = reported;
-        shown = end_shows (client_of c.args.capacity) c.args.lines.items answers played.pump
+        shown = end_shows (setup_of c.args.setup) c.args.lines.items answers played.pump
             (g.L.Link.left c.args.link) (g.L.Link.left played.link)
             (g.L.Link.contents c.args.link) (g.L.Link.contents played.link)
-            played.client.state.past played.client.tickets session c.match-report.end text
+            played.client.state.past played.client.tickets known.session c.match-report.end text
             reported;
       },
       subst (λ t. EndWrites c.write_report-end.result (ended.Played c.match-report.end) t
