@@ -4,16 +4,13 @@ use Rattle.std.specs.List.{list_any}
 use Rattle.std.specs.Str.{bytes_eq}
 use Rattle.command_line.specs.Options.{Word}
 
--- a command, or an option of a command
+-- an option of a command
 pub data Part : Type 0 where
-  whole : Word → Part
   option : Word → Word → Part
 
 -- The one table of what is not built: words that name a part of it are refused.
 abbrev pub unbuilt : List Part
-unbuilt =
-    whole (codes "storm")
-    ∷ option (codes "script") (codes "--redirect") ∷ []
+unbuilt = option (codes "script") (codes "--redirect") ∷ []
 
 -- the word is this option, and perhaps its value after a `=`
 abbrev pub writes_option : Word → Word → Bool
@@ -23,7 +20,6 @@ writes_option (a ∷ name) [] = false
 writes_option (a ∷ name) (b ∷ word) = a == b && writes_option name word
 
 abbrev pub is_named : Word → List Word → Part → Bool
-is_named command words (whole name) = bytes_eq command name
 is_named command words (option name wanted) =
     bytes_eq command name && list_any (writes_option wanted) words
 

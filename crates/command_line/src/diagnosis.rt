@@ -15,9 +15,6 @@ pub fn find_wrong<'a>(words: &'a [String]) -> Option<WrongWords<'a>> {
     if !is_command(command) {
         return Some(WrongWords::UnknownCommand(command));
     }
-    if is_unbuilt(command, &[]) {
-        return Some(WrongWords::UnbuiltCommand(command));
-    }
     if is_unbuilt(command, rest) {
         return Some(WrongWords::UnbuiltOption(UNBUILT_OPTION));
     }

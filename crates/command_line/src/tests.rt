@@ -353,7 +353,6 @@ fn values_are_those_of_the_words_or_the_defaults(rt: HostRuntime) -> Result<(), 
 
 // Words that are in the definition, with what is not built among them.
 const UNBUILT: &str = "\
-storm --number 0 --steps 0
 script --connect h:1 --resp 2 --redirect
 script --redirect --connect h:1";
 
@@ -364,6 +363,7 @@ world --table-max 1
 world --out-max=1
 world --table-max 1 --out-max 1
 world --table-max=4000000000 --history-max=1
+storm --number 0 --steps 0
 serve --port 1 --out-max 1
 serve --port 1 --workers 2 --connections 3 --history-max=5
 serve --port 1 --table-max=1
@@ -408,7 +408,7 @@ fn what_is_wrong_is_said_of_the_first_wrong_word(rt: HostRuntime) -> Result<(), 
         ("", "no command is named"),
         ("worlds", "\"worlds\" is no command"),
         ("--help", "\"--help\" is no command"),
-        ("storm --number 1", "the command storm is not built yet"),
+        ("storm --number 1", "--steps is missing"),
         (
             "script --connect h:1 --redirect",
             "not built yet: --redirect",

@@ -8,7 +8,6 @@ pub fn is_unbuilt(command: &str, words: &[String]) -> bool
     ensures { result ≡ names_unbuilt command.now (map string_bytes words.now) }
 {
     match command {
-        "storm" => true,
         "script" => has_option(words, "--redirect"),
         _ => false,
     }

@@ -7,6 +7,7 @@ use std::fmt;
 /// The one-line forms of the commands.
 pub const FORMS: &str = "\
 usage: zeovalki world [--table-max N] [--out-max N] [--history-max N] < SCHEDULE
+       zeovalki storm --number N --steps N
        zeovalki serve --port N [--workers N] [--connections N]
                       [--table-max N] [--out-max N] [--history-max N]
        zeovalki script --connect HOST:PORT [--mode MODE] [--prefix P] [--noloop]
@@ -19,7 +20,6 @@ An option is --name value or --name=value, each at most once.
 pub enum WrongWords<'a> {
     NoCommand,
     UnknownCommand(&'a str),
-    UnbuiltCommand(&'a str),
     UnbuiltOption(&'static str),
     UnknownOption(&'a str),
     NoOption(&'a str),
@@ -71,7 +71,6 @@ impl fmt::Display for WrongWords<'_> {
         match self {
             WrongWords::NoCommand => f.write_str("no command is named"),
             WrongWords::UnknownCommand(word) => write!(f, "{word:?} is no command"),
-            WrongWords::UnbuiltCommand(word) => write!(f, "the command {word} is not built yet"),
             WrongWords::UnbuiltOption(options) => write!(f, "not built yet: {options}"),
             WrongWords::UnknownOption(word) => write!(f, "{word:?} is no option of the command"),
             WrongWords::NoOption(word) => write!(f, "{word:?} is no option, and no value of one"),

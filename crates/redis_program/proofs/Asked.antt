@@ -1,6 +1,5 @@
--- Words ask for a world, a server or a script alone, as the table of what is not built stands, and
--- their settings are valid.
-use Rattle.std.proofs.Common.{◌≡◌, ◌<◌, ◌≤◌, ◌||◌, ◌∙◌, ℕ, Bool, cond, codes, inl, inr, List, []}
+-- Words ask for a world, a storm, a server or a script alone, and their settings are valid.
+use Rattle.std.proofs.Common.{◌≡◌, ◌<◌, ◌≤◌, ◌∙◌, ℕ, Bool, cond, codes, inl, inr, List, []}
 use Rattle.std.proofs.Common.{◌∷◌, None, Some, arith, sym, ap}
 use Rattle.std.specs.declared.option.Option.{Option}
 use Rattle.std.specs.Option.{option_map}
@@ -15,27 +14,30 @@ use Rattle.command_line.specs.declared.settings.Connection.{Connection}
 use Rattle.command_line.specs.declared.settings.LimitSettings.{LimitSettings}
 use Rattle.command_line.specs.declared.settings.ScriptSettings.{ScriptSettings}
 use Rattle.command_line.specs.declared.settings.ServeSettings.{ServeSettings}
+use Rattle.command_line.specs.declared.settings.StormSettings.{StormSettings}
 use Rattle.command_line.specs.Options.{Word, is_true, number_in, option_value, options_of, value_of}
 use Rattle.command_line.specs.Commands.{command_of, limits, script}
 use Rattle.command_line.specs.Commands.{script_from, script_of, script_options, serve, serve_from}
-use Rattle.command_line.specs.Commands.{serve_of, serve_options, storm_of, world_of}
+use Rattle.command_line.specs.Commands.{serve_of, serve_options, storm, storm_from, storm_of}
+use Rattle.command_line.specs.Commands.{storm_options, world_of}
+use Rattle.command_line.specs.Unbuilt.{names_unbuilt}
 use Rattle.redis_program.specs.Headline.{limits_of}
 
--- ---- the commands that are not built
+-- ---- the commands
 
-module _ (a : Asked) (rest : Bool) where
-  some_of : (b : Bool) (o : Option Asked) → cond b None o ≡ Some a → o ≡ Some a
-  some_of b o h = grind arith
-
-  by_names : (world storm serve script : Bool) (w x y z : Option Asked)
-      → cond (storm || rest) None
-      (cond world w (cond storm x (cond serve y (cond script z None)))) ≡ Some a
-      → (w ≡ Some a) ⊎ (y ≡ Some a) ⊎ (z ≡ Some a)
-  by_names world storm serve script w x y z e = grind arith
+by_names : (a : Asked) (unbuilt world storm serve script : Bool) (w x y z : Option Asked)
+    → cond unbuilt None
+    (cond world w (cond storm x (cond serve y (cond script z None)))) ≡ Some a
+    → (w ≡ Some a) ⊎ (x ≡ Some a) ⊎ (y ≡ Some a) ⊎ (z ≡ Some a)
+by_names a unbuilt world storm serve script w x y z e = grind arith
 
 is_world : (o : Option LimitSettings) (a : Asked) → option_map World o ≡ Some a
     → (s : LimitSettings) × (a ≡ World s) × (o ≡ Some s)
 is_world o a e = grind arith
+
+is_storm : (o : Option StormSettings) (a : Asked) → option_map Storm o ≡ Some a
+    → (s : StormSettings) × (a ≡ Storm s) × (o ≡ Some s)
+is_storm o a e = grind arith
 
 is_serve : (o : Option ServeSettings) (a : Asked) → option_map Serve o ≡ Some a
     → (s : ServeSettings) × (a ≡ Serve s) × (o ≡ Some s)
@@ -45,9 +47,12 @@ is_script : (o : Option ScriptSettings) (a : Asked) → option_map Script o ≡ 
     → (s : ScriptSettings) × (a ≡ Script s) × (o ≡ Some s)
 is_script o a e = grind arith
 
--- words that are understood ask for a world, a server or a script
+-- words that are understood ask for a world, a storm, a server or a script
 abbrev AsksWorld : Asked → Type 0
 AsksWorld a = (s : LimitSettings) × (a ≡ World s) × (rest : List Word) × (world_of rest ≡ Some s)
+
+abbrev AsksStorm : Asked → Type 0
+AsksStorm a = (s : StormSettings) × (a ≡ Storm s) × (rest : List Word) × (storm_of rest ≡ Some s)
 
 abbrev AsksServe : Asked → Type 0
 AsksServe a = (s : ServeSettings) × (a ≡ Serve s) × (rest : List Word) × (serve_of rest ≡ Some s)
@@ -56,24 +61,30 @@ abbrev AsksScript : Asked → Type 0
 AsksScript a =
     (s : ScriptSettings) × (a ≡ Script s) × (rest : List Word) × (script_of rest ≡ Some s)
 
-pub only_built : (words : List Word) (a : Asked) → command_of words ≡ Some a
-    → AsksWorld a ⊎ AsksServe a ⊎ AsksScript a
-only_built [] a e = absurd (let no : ⊥ = cc in no)
-only_built (command ∷ words) a e =
-    by_part (by_names a _ (bytes_eq command (codes "world")) (bytes_eq command (codes "storm"))
-    (bytes_eq command (codes "serve")) (bytes_eq command (codes "script"))
+abbrev AsksOne : Asked → Type 0
+AsksOne a = AsksWorld a ⊎ AsksStorm a ⊎ AsksServe a ⊎ AsksScript a
+
+asks_one : (words : List Word) (a : Asked) → command_of words ≡ Some a → AsksOne a
+asks_one [] a e = absurd (let no : ⊥ = cc in no)
+asks_one (command ∷ words) a e =
+    by_part (by_names a (names_unbuilt command words) (bytes_eq command (codes "world"))
+    (bytes_eq command (codes "storm")) (bytes_eq command (codes "serve"))
+    (bytes_eq command (codes "script"))
     (option_map World (world_of words)) (option_map Storm (storm_of words))
     (option_map Serve (serve_of words)) (option_map Script (script_of words)) e)
   where
     by_part : (option_map World (world_of words) ≡ Some a)
+        ⊎ (option_map Storm (storm_of words) ≡ Some a)
         ⊎ (option_map Serve (serve_of words) ≡ Some a)
         ⊎ (option_map Script (script_of words) ≡ Some a)
-        → AsksWorld a ⊎ AsksServe a ⊎ AsksScript a
+        → AsksOne a
     by_part (inl h) = let is = is_world (world_of words) a h in inl (is.0, is.1, words, is.2)
     by_part (inr (inl h)) =
-        let is = is_serve (serve_of words) a h in inr (inl (is.0, is.1, words, is.2))
-    by_part (inr (inr h)) =
-        let is = is_script (script_of words) a h in inr (inr (is.0, is.1, words, is.2))
+        let is = is_storm (storm_of words) a h in inr (inl (is.0, is.1, words, is.2))
+    by_part (inr (inr (inl h))) =
+        let is = is_serve (serve_of words) a h in inr (inr (inl (is.0, is.1, words, is.2)))
+    by_part (inr (inr (inr h))) =
+        let is = is_script (script_of words) a h in inr (inr (inr (is.0, is.1, words, is.2)))
 
 -- ---- the limits
 
@@ -88,14 +99,48 @@ world_valid words s e = grind arith
 
 pub limits_valid : (words : List Word) (s : LimitSettings) → command_of words ≡ Some (World s)
     → AreValid (limits_of s)
-limits_valid words s e = by_part (only_built words (World s) e)
+limits_valid words s e = by_part (asks_one words (World s) e)
   where
-    by_part : AsksWorld (World s) ⊎ AsksServe (World s) ⊎ AsksScript (World s)
-        → AreValid (limits_of s)
+    by_part : AsksOne (World s) → AreValid (limits_of s)
     by_part (inl (t, is, rest, h)) =
         let same : s ≡ t = cc in world_valid rest s (h ∙ ap Some (sym same))
     by_part (inr (inl (t, is, rest, h))) = absurd (let no : ⊥ = cc in no)
-    by_part (inr (inr (t, is, rest, h))) = absurd (let no : ⊥ = cc in no)
+    by_part (inr (inr (inl (t, is, rest, h)))) = absurd (let no : ⊥ = cc in no)
+    by_part (inr (inr (inr (t, is, rest, h)))) = absurd (let no : ⊥ = cc in no)
+
+-- ---- the settings of a storm
+
+number_below : (high m : ℕ) (text : Option Word) → number_in 0 high None text ≡ Some m → m ≤ high
+number_below high m text e = grind arith
+
+all_stormable : (number steps : Option ℕ) (s : StormSettings)
+    → ((m : ℕ) → steps ≡ Some m → m ≤ 200000) → storm number steps ≡ Some s → s.steps ≤ 200000
+all_stormable number steps s q e = grind arith
+
+storm_valid : (words : List Word) (s : StormSettings) → storm_of words ≡ Some s
+    → s.steps ≤ 200000
+unfolding storm_of
+storm_valid words s e = go (options_of storm_options words) e
+  where
+    go : (o : Option (List (Word × Word)))
+        → option_and_then
+        (λ seen. storm_from (option_value storm_options (λ n. value_of n seen)))
+        o ≡ Some s → s.steps ≤ 200000
+    go None h = absurd (let no : ⊥ = cc in no)
+    go (Some seen) h =
+        let value : Word → Option Word = option_value storm_options (λ n. value_of n seen) in
+        all_stormable _ _ s (λ m e. number_below 200000 m (value (codes "steps")) e) h
+
+pub steps_valid : (words : List Word) (s : StormSettings) → command_of words ≡ Some (Storm s)
+    → s.steps ≤ 200000
+steps_valid words s e = by_part (asks_one words (Storm s) e)
+  where
+    by_part : AsksOne (Storm s) → s.steps ≤ 200000
+    by_part (inl (t, is, rest, h)) = absurd (let no : ⊥ = cc in no)
+    by_part (inr (inl (t, is, rest, h))) =
+        let same : s ≡ t = cc in storm_valid rest s (h ∙ ap Some (sym same))
+    by_part (inr (inr (inl (t, is, rest, h)))) = absurd (let no : ⊥ = cc in no)
+    by_part (inr (inr (inr (t, is, rest, h)))) = absurd (let no : ⊥ = cc in no)
 
 -- ---- the settings of a server
 
@@ -132,12 +177,13 @@ serve_valid words s e = go (options_of serve_options words) e
 
 pub settings_valid : (words : List Word) (s : ServeSettings) → command_of words ≡ Some (Serve s)
     → IsServable s
-settings_valid words s e = by_part (only_built words (Serve s) e)
+settings_valid words s e = by_part (asks_one words (Serve s) e)
   where
-    by_part : AsksWorld (Serve s) ⊎ AsksServe (Serve s) ⊎ AsksScript (Serve s) → IsServable s
+    by_part : AsksOne (Serve s) → IsServable s
     by_part (inl (t, is, rest, h)) = absurd (let no : ⊥ = cc in no)
-    by_part (inr (inr (t, is, rest, h))) = absurd (let no : ⊥ = cc in no)
-    by_part (inr (inl (t, is, rest, h))) =
+    by_part (inr (inl (t, is, rest, h))) = absurd (let no : ⊥ = cc in no)
+    by_part (inr (inr (inr (t, is, rest, h)))) = absurd (let no : ⊥ = cc in no)
+    by_part (inr (inr (inl (t, is, rest, h)))) =
         let same : s ≡ t = cc in serve_valid rest s (h ∙ ap Some (sym same))
 
 -- ---- the settings of a script
@@ -175,10 +221,11 @@ script_valid words s e = go (options_of script_options words) e
 
 pub capacity_valid : (words : List Word) (s : ScriptSettings)
     → command_of words ≡ Some (Script s) → (0 < s.capacity) × (s.capacity ≤ 1000000)
-capacity_valid words s e = by_part (only_built words (Script s) e)
+capacity_valid words s e = by_part (asks_one words (Script s) e)
   where
-    by_part : AsksWorld (Script s) ⊎ AsksServe (Script s) ⊎ AsksScript (Script s) → IsPlayable s
+    by_part : AsksOne (Script s) → IsPlayable s
     by_part (inl (t, is, rest, h)) = absurd (let no : ⊥ = cc in no)
     by_part (inr (inl (t, is, rest, h))) = absurd (let no : ⊥ = cc in no)
-    by_part (inr (inr (t, is, rest, h))) =
+    by_part (inr (inr (inl (t, is, rest, h)))) = absurd (let no : ⊥ = cc in no)
+    by_part (inr (inr (inr (t, is, rest, h)))) =
         let same : s ≡ t = cc in script_valid rest s (h ∙ ap Some (sym same))

@@ -16,8 +16,8 @@ use Rattle.redis_program.specs.declared.status.Ending.{Ending}
 use Rattle.redis_program.specs.declared.status.Ending.TheVariants.{Done, BadLine, ReadFault}
 use Rattle.redis_program.specs.declared.status.Ending.TheVariants.{WriteFault, Refused, HistoryFull}
 use Rattle.redis_program.specs.declared.status.Ending.TheVariants.{NoMemory}
-use Rattle.redis_program.specs.Headline.{Comes, EndsAs, IsPlain, IsVerdict, Next, PlayedThen}
-use Rattle.redis_program.specs.Headline.{Writes, last_line, status_of, text_lines}
+use Rattle.redis_program.specs.Headline.{AppendsFirst, Comes, EndsAs, IsPlain, IsVerdict, Next}
+use Rattle.redis_program.specs.Headline.{PlayedThen, Writes, last_line, status_of, text_lines}
 use Rattle.redis_program.specs.Playing.{ComesTo, EndingRead, EndingWrote, LastGives, WritesBody}
 use Rattle.edge_links.proofs.Bytes.{appends_more}
 use Rattle.edge_lines.proofs.Bytes.{first_longer, first_then}
@@ -26,6 +26,54 @@ use Rattle.redis_program.proofs.Judging.{ends_as}
 body_written : (ending : Ending) (old new : Option (List ℕ)) (body : List ℕ)
     → (ending ≡ WriteFault → ⊥) → WritesBody ending old new body → Appends old new body
 body_written ending old new body n w = grind arith
+
+module _ (Ends : Ending → List ℕ → Type 0) where
+  -- the body was written, and then the last line of the ending
+  pub ends_as_said : (ending : Ending) (body : List ℕ) (result : Status)
+      (out0 out1 out2 : Option (List ℕ)) (before now : Counts) → (ending ≡ WriteFault → ⊥)
+      → Ends ending body → Ends NoMemory body → Appends out0 out1 body
+      → LastGives ending result out1 out2 before now → Writes Ends result out0 out2
+  ends_as_said ending body result out0 out1 out2 before now n ends poor wrote last =
+      let P : Status → Type 0 = λ s. Writes Ends s out0 out2 in
+      elim last [
+        | inl h ↦ subst P (sym h.0) (grind (arith, appends_more))
+        | inr (inl h) ↦ subst P (sym h.0) (
+          NoMemory,
+          body,
+          refl,
+          poor,
+          appends_more out0 out1 out2 body (last_line NoMemory) wrote h.1,
+        )
+        | inr (inr (inl h)) ↦ subst P (sym h.0) (
+          ending,
+          body,
+          ends,
+          first_then out0 out1 out2 body (last_line ending) wrote h.2,
+        )
+        | inr (inr (inr h)) ↦ subst P (sym h.0) (
+          NoMemory,
+          body,
+          poor,
+          first_then out0 out1 out2 body (last_line NoMemory) wrote h.2,
+        )
+      ]
+
+  -- the body was written, and nothing follows it
+  pub all_written : (body : List ℕ) (out0 out1 : Option (List ℕ)) → Ends Done body
+      → Appends out0 out1 body → Writes Ends status.Done out0 out1
+  all_written body out0 out1 ends wrote =
+      (Done, body, refl, ends, subst (λ l. Appends out0 out1 l) (sym (append-nil body)) wrote)
+
+  -- the sink failed in the body
+  pub first_written : (ending : Ending) (body : List ℕ) (out0 out1 : Option (List ℕ))
+      → Ends ending body → AppendsFirst out0 out1 body → Writes Ends status.WriteFault out0 out1
+  first_written ending body out0 out1 ends first = (
+    ending,
+    body,
+    ends,
+    first_longer out0 out1 body (body ++ last_line ending)
+        (prefix_by body (body ++ last_line ending) (last_line ending) refl) first,
+  )
 
 module _ (limits : Limits) (in0 in1 : Option (List ℕ)) where
   -- memory for the last line may be wanting, whatever it is
@@ -68,46 +116,16 @@ module _ (limits : Limits) (in0 in1 : Option (List ℕ)) where
       → ComesTo limits in0 in1 ending out0 out1 → LastGives ending result out1 out2 before now
       → Writes (Comes limits in0 in1) result out0 out2
   finishes ending result out0 out1 out2 before now d n c last =
-      let wrote = body_written ending out0 out1 c.0 n c.2 in
-      let poor = no_memory_too ending c.0 d n c.1 in
-      let P : Status → Type 0 = λ s. Writes (Comes limits in0 in1) s out0 out2 in
-      elim last [
-        | inl h ↦ subst P (sym h.0) (grind (arith, appends_more))
-        | inr (inl h) ↦ subst P (sym h.0) (
-          NoMemory,
-          c.0,
-          refl,
-          poor,
-          appends_more out0 out1 out2 c.0 (last_line NoMemory) wrote h.1,
-        )
-        | inr (inr (inl h)) ↦ subst P (sym h.0) (
-          ending,
-          c.0,
-          c.1,
-          first_then out0 out1 out2 c.0 (last_line ending) wrote h.2,
-        )
-        | inr (inr (inr h)) ↦ subst P (sym h.0) (
-          NoMemory,
-          c.0,
-          poor,
-          first_then out0 out1 out2 c.0 (last_line NoMemory) wrote h.2,
-        )
-      ]
+      ends_as_said (Comes limits in0 in1) ending c.0 result out0 out1 out2 before now n c.1
+      (no_memory_too ending c.0 d n c.1) (body_written ending out0 out1 c.0 n c.2) last
 
   pub done_writes : (out0 out1 : Option (List ℕ)) → ComesTo limits in0 in1 Done out0 out1
       → Writes (Comes limits in0 in1) status.Done out0 out1
-  done_writes out0 out1 c =
-      (Done, c.0, refl, c.1, subst (λ l. Appends out0 out1 l) (sym (append-nil c.0)) c.2)
+  done_writes out0 out1 c = all_written (Comes limits in0 in1) c.0 out0 out1 c.1 c.2
 
   pub cut_writes : (out0 out1 : Option (List ℕ)) → ComesTo limits in0 in1 WriteFault out0 out1
       → Writes (Comes limits in0 in1) status.WriteFault out0 out1
-  cut_writes out0 out1 c = (
-    WriteFault,
-    c.0,
-    c.1,
-    first_longer out0 out1 c.0 (c.0 ++ [])
-        (prefix_by c.0 (c.0 ++ []) [] refl) c.2,
-  )
+  cut_writes out0 out1 c = first_written (Comes limits in0 in1) WriteFault c.0 out0 out1 c.1 c.2
 
 writes_too : (P Q : Ending → List ℕ → Type 0) (result : Status) (old new : Option (List ℕ))
     → ((ending : Ending) (body : List ℕ) → P ending body → Q ending body)

@@ -19,6 +19,7 @@ use Rattle.world_run.specs.WorldState.{WorldState, start}
 use Rattle.world_run.specs.World.{step}
 use Rattle.world_run.specs.WorldTranscript.{transcript}
 use Rattle.world_run.proofs.History.{faults_none, have_links, step_lines}
+use Rattle.world_run.proofs.Played.{transcript_then}
 use Rattle.redis_program.proofs.Valid.{lines_valid}
 use Rattle.redis_program.specs.declared.status.Ending.{Ending}
 use Rattle.redis_program.specs.declared.status.Ending.TheVariants.{Done, BadLine, ReadFault}
@@ -29,7 +30,7 @@ use Rattle.redis_program.specs.Headline.{ReadsBad, ReadsWhole, ending_at, event_
 use Rattle.redis_program.specs.Headline.{faulty_or, first_fault, text_lines, transcript_of, verdict}
 use Rattle.edge_lines.proofs.Splitting.{line_ended, lines_ended, line_alone, line_begun}
 use Rattle.redis_program.proofs.Scheduling.{same_length, events_then, no_event, one_event}
-use Rattle.redis_program.proofs.Scheduling.{transcript_then, transcript_begins, fault_then}
+use Rattle.redis_program.proofs.Scheduling.{transcript_begins, fault_then}
 use Rattle.redis_program.proofs.Scheduling.{transcript_faulty, fault_first, too_long}
 
 -- the first line of what comes after the lines
@@ -87,7 +88,7 @@ module _ (limits : Limits) where
     no_fault : first_fault (start limits) 1 events ≡ None
     no_fault =
         sym (ap (first_fault (start limits) 1) (append-nil events))
-        ∙ fault_then (start limits) w 1 (length events + 1) events [] p.played refl
+        ∙ fault_then (start limits) w 1 (length events + 1) events [] p.plays.played refl
 
     -- what the lines with others after them print
     lines_then : (tail : List (List ℕ)) → transcript_of limits (lines ++ tail)
@@ -150,7 +151,7 @@ module _ (limits : Limits) where
         ∙ ap (λ es. events ++ es) is in
         let same = same_length 1 lines events p.lines_are in
         let at : next ≡ length events + 1 = omega arith in
-        let meets = fault_then (start limits) w 1 next events (event ∷ ds) p.played at
+        let meets = fault_then (start limits) w 1 next events (event ∷ ds) p.plays.played at
         ∙ fault_first w next event ds f met in (
           sym (verdict_is all (events ++ event ∷ ds) are
               ∙ ap (λ o. faulty_or o (otherwise all (events ++ event ∷ ds))) meets),
@@ -212,7 +213,7 @@ module _ (limits : Limits) where
   by_ending (Refused number f) lines events w more printed body rest d p x b =
       let k = whole_first x.3 more rest (Some rest) x.5 (λ e. e) in
       let links = have_links limits limits.history_max events w
-      (lines_valid 1 lines events p.lines_are) p.played in
+      (lines_valid 1 lines events p.lines_are) p.plays.played in
       let none = (faults_none w x.4 f links x.7 x.2).1 in
       let ends = fault_ends lines events w p k.0 x.3 x.4 f printed body x.6 x.7
       (x.1 ∙ sym none) b in

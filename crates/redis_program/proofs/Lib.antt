@@ -4,6 +4,7 @@ pub mod Serving
 pub mod Scheduling
 pub mod LineTexts
 pub mod Playing
+pub mod Storming
 pub mod Judging
 pub mod Finishing
 pub mod Valid

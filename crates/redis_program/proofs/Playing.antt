@@ -9,22 +9,25 @@ use Rattle.serial_model.specs.declared.history.Limits.{Limits}
 use Rattle.script_text.specs.declared.event.Event.{Event}
 use Rattle.script_text.specs.declared.line.Line.{Line}
 use Rattle.script_text.specs.Printed.{text_of}
+use Rattle.script_text.specs.Valid.{IsValid}
+use Rattle.shared_cache.specs.Laws.{Every}
 use Rattle.world_run.specs.WorldState.{WorldState, start}
 use Rattle.world_run.specs.World.{step}
 use Rattle.world_run.specs.WorldTranscript.{transcript, after}
 use Rattle.world_run.specs.WorldHistory.{HasOneHistory, HitStands}
 use Rattle.world_run.proofs.History.{every_front, faults_none, have_links}
+use Rattle.world_run.proofs.Played.{event_more, events_played}
 use Rattle.redis_program.specs.declared.status.Ending.{Ending}
 use Rattle.redis_program.specs.declared.status.Ending.TheVariants.{Done, BadLine, WriteFault}
 use Rattle.redis_program.specs.declared.status.Ending.TheVariants.{Refused, HistoryFull, NoMemory}
 use Rattle.redis_program.specs.Headline.{AppendsFirst, AreLinesOf, ArePlain, IsPlain, Next, Plays}
-use Rattle.redis_program.specs.Headline.{PlayedThen, PlaysPart, ReadsWhole, ended, text_lines}
+use Rattle.redis_program.specs.Headline.{PlayedThen, PlaysPart, ReadsWhole, ended}
+use Rattle.redis_program.specs.Headline.{text_lines}
 use Rattle.redis_program.specs.Playing.{ComesTo, LineGives, PartPrinted}
 use Rattle.edge_links.proofs.Bytes.{appends_none, appends_more, consumes_none, consumes_more}
 use Rattle.edge_lines.proofs.Bytes.{first_then}
 use Rattle.edge_lines.proofs.Splitting.{lines_ended, line_alone, plain_more, ended_more}
-use Rattle.redis_program.proofs.Scheduling.{are_more, after_then, transcript_then, after_played}
-use Rattle.redis_program.proofs.Scheduling.{transcript_one, text_more}
+use Rattle.redis_program.proofs.Scheduling.{are_more, text_more}
 use Rattle.redis_program.proofs.LineTexts.{all_printed}
 use Rattle.redis_program.proofs.Valid.{event_valid, lines_valid}
 
@@ -54,19 +57,13 @@ standing_none limits w input output e = record {
   written = appends_none output;
 }
 
--- what holds of every schedule holds of the lines so far
 plays_of : HasOneHistory → (limits : Limits) (lines : List (List ℕ)) (events : List Event)
     (w : WorldState) → AreLinesOf 1 lines events → after (start limits) events ≡ Some w
     → Plays limits lines events w
-plays_of law limits lines events w a p =
-    let all = law limits limits.history_max events w (lines_valid 1 lines events a) p in
-    record {
-      lines_are = a;
-      played = p;
-      one_history = all.0;
-      hits = all.2;
-      flows = all.3;
-    }
+plays_of law limits lines events w a p = record {
+  lines_are = a;
+  plays = events_played law limits events w (lines_valid 1 lines events a) p;
+}
 
 part_of : HasOneHistory → (limits : Limits) (lines : List (List ℕ)) (events : List Event)
     (w : WorldState) (n : ℕ) (line : List ℕ) (printed : List Line) → AreLinesOf 1 lines events
@@ -90,18 +87,6 @@ written_more : (all lines : List Line) (out0 out1 out2 : Option (List ℕ))
     → Appends out0 out2 (text_of (all ++ lines))
 written_more all lines out0 out1 out2 p q = grind (arith, text_more, appends_more)
 
--- one more event was played
-event_more : (limits : Limits) (w : WorldState) (events : List Event) (event : Event)
-    → after (start limits) events ≡ Some w → (step w event).fault ≡ None
-    → (after (start limits) (events ++ event ∷ []) ≡ Some (step w event).state)
-    × (transcript (start limits) (events ++ event ∷ [])
-    ≡ transcript (start limits) events ++ (step w event).lines)
-event_more limits w events event p none = (
-  after_then (start limits) w events (event ∷ []) p ∙ after_played w event none,
-  transcript_then (start limits) w events (event ∷ []) p
-      ∙ ap (λ l. transcript (start limits) events ++ l) (transcript_one w event),
-)
-
 module _ (limits : Limits) (number : ℕ) (w : WorldState)
     (in0 in1 in2 out0 out1 out2 : Option (List ℕ)) where
   abbrev printed_by : List Event → List Line
@@ -118,7 +103,7 @@ module _ (limits : Limits) (number : ℕ) (w : WorldState)
     events = s.events ++ event ∷ []
 
     played : after (start limits) events ≡ Some new
-    played = (event_more limits w s.events event s.played g.1.2).0 ∙ ap Some (sym g.1.3)
+    played = (event_more (start limits) w s.events event s.played g.1.2).0 ∙ ap Some (sym g.1.3)
 
     written : Appends out0 out2 (text_of (printed_by events))
     written = grind (arith, event_more, written_more)

@@ -54,38 +54,6 @@ pub one_event : (n : ℕ) (line : List ℕ) (more : List (List ℕ)) (e : Event)
     → event_at n line ≡ Some e → events_of n (line ∷ more) ≡ e ∷ events_of (n + 1) more
 one_event n line more e h = ap (λ o. option_map_or (λ d. d ∷ events_of (n + 1) more) o []) h
 
-pub after_then : (w m : WorldState) (events ds : List Event) → after w events ≡ Some m
-    → after w (events ++ ds) ≡ after m ds
-after_then w m [] ds h = let same : w ≡ m = cc in ap (λ x. after x ds) same
-after_then w m (d ∷ events) ds h =
-    go (step w d).fault h (after_then (step w d).state m events ds)
-  where
-    next : WorldState
-    next = (step w d).state
-
-    go : (f : Option WorldFault) → unless_fault f (after next events) None ≡ Some m
-        → (after next events ≡ Some m → after next (events ++ ds) ≡ after m ds)
-        → unless_fault f (after next (events ++ ds)) None ≡ after m ds
-    go f q later = grind arith
-
-pub transcript_then : (w m : WorldState) (events ds : List Event) → after w events ≡ Some m
-    → transcript w (events ++ ds) ≡ transcript w events ++ transcript m ds
-transcript_then w m [] ds h = let same : w ≡ m = cc in ap (λ x. transcript x ds) same
-transcript_then w m (d ∷ events) ds h =
-    ap (λ l. (step w d).lines ++ l)
-    (go (step w d).fault h (transcript_then (step w d).state m events ds))
-    ∙ sym (grind (arith, append_assoc))
-  where
-    next : WorldState
-    next = (step w d).state
-
-    go : (f : Option WorldFault) → unless_fault f (after next events) None ≡ Some m
-        → (after next events ≡ Some m
-        → transcript next (events ++ ds) ≡ transcript next events ++ transcript m ds)
-        → unless_fault f (transcript next (events ++ ds)) []
-        ≡ unless_fault f (transcript next events) [] ++ transcript m ds
-    go f q later = grind arith
-
 pub fault_then : (w m : WorldState) (n k : ℕ) (events ds : List Event) → after w events ≡ Some m
     → k ≡ length events + n → first_fault w n (events ++ ds) ≡ first_fault m k ds
 fault_then w m n k [] ds h q = grind arith
@@ -102,14 +70,7 @@ fault_then w m n k (d ∷ events) ds h q =
         → at_fault f n (first_fault next (n + 1) (events ++ ds)) ≡ first_fault m k ds
     go f p later = grind arith
 
--- an event that is played, and one that meets a fault
-pub after_played : (w : WorldState) (e : Event) → (step w e).fault ≡ None
-    → after w (e ∷ []) ≡ Some (step w e).state
-after_played w e h = ap (λ f. unless_fault f (Some (step w e).state) None) h
-
-pub transcript_one : (w : WorldState) (e : Event) → transcript w (e ∷ []) ≡ (step w e).lines
-transcript_one w e = grind (arith, append-nil)
-
+-- an event that meets a fault
 pub transcript_faulty : (w : WorldState) (e : Event) (ds : List Event) (f : WorldFault)
     → (step w e).fault ≡ Some f → transcript w (e ∷ ds) ≡ (step w e).lines
 transcript_faulty w e ds f h = grind (arith, append-nil)

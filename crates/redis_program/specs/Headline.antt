@@ -22,9 +22,9 @@ use Rattle.server_links.specs.Faults.{IsRefusal, number_of}
 use Rattle.server_links.specs.Outcome.{Reached}
 use Rattle.world_run.specs.WorldState.{WorldState, start}
 use Rattle.world_run.specs.World.{step}
-use Rattle.world_run.specs.WorldTranscript.{after, transcript}
-use Rattle.world_run.specs.WorldFlows.{FlowDelivers}
-use Rattle.world_run.specs.WorldHistory.{AllHitsStand, Follows, HitStands, OneHistory}
+use Rattle.world_run.specs.WorldTranscript.{transcript}
+use Rattle.world_run.specs.WorldHistory.{Follows, HitStands}
+pub use Rattle.world_run.specs.Played.{PlaysEvents}
 use Rattle.redis_program.specs.declared.status.Status.{Status}
 use Rattle.redis_program.specs.declared.status.Status.TheVariants as status
 use Rattle.redis_program.specs.declared.status.Ending.{Ending}
@@ -133,16 +133,11 @@ IsVerdict limits lines answer =
 
 -- ---- what was played
 
--- The lines are those of the events, these met no fault, and one history serves all links. What a
--- client holds is what the server would answer, and each answer from a cache stands at its point of
--- the history. A link that is not cut would deliver all of its bytes in a flow.
+-- the lines are those of the events, and what holds of every schedule holds of these
 pub record Plays (limits : Limits) (lines : List (List ℕ)) (events : List Event) (w : WorldState)
     : Type 0 where
   pub lines_are : AreLinesOf 1 lines events
-  pub played : after (start limits) events ≡ Some w
-  pub one_history : OneHistory (start limits) events (transcript (start limits) events) w
-  pub hits : AllHitsStand (start limits) events
-  pub flows : (at : ℕ) → at < length w.links.links → FlowDelivers w at
+  pub plays : PlaysEvents limits events w
 
 -- After these events one more was played, or broken off on the way by a fault or want of memory.
 -- What it printed is the first of the lines that it had printed by then, within the one history,

@@ -2,3 +2,4 @@ pub mod Headline
 pub mod Playing
 pub mod Scripting
 pub mod Serving
+pub mod Storming

@@ -5,6 +5,7 @@ ghost use Rattle.command_line.specs.declared.settings.Asked.TheVariants as asked
 ghost use Rattle.command_line.specs.declared.settings.LimitSettings.{LimitSettings};
 ghost use Rattle.command_line.specs.declared.settings.ScriptSettings.{ScriptSettings};
 ghost use Rattle.command_line.specs.declared.settings.ServeSettings.{ServeSettings};
+ghost use Rattle.command_line.specs.declared.settings.StormSettings.{StormSettings};
 ghost use Rattle.command_line.specs.Commands.{command_of};
 ghost use Rattle.serve_run.specs.Written.{NetFailed};
 ghost use Rattle.redis_program.specs.declared.status.Status.TheVariants as status;
@@ -12,11 +13,14 @@ ghost use Rattle.redis_program.specs.Headline.{Comes, EndsAs, IsVerdict, UsageGi
 ghost use Rattle.redis_program.specs.Headline.{limits_of, text_lines};
 ghost use Rattle.redis_program.specs.Scripting.{AsksForScript, ScriptGives};
 ghost use Rattle.redis_program.specs.Serving.{AsksToServe, ServeGives};
+ghost use Rattle.redis_program.specs.Storming.{AsksForStorm, StormEnds};
 
+use super::progress::{Progress, Terminal};
 use super::schedule::{run_world, write_no_memory};
 use super::script::run_script;
 use super::serve::run_serve;
 use super::status::Status;
+use super::storm::run_storm;
 use command_line::{Asked, LimitSettings, read_words};
 use conn_pool::Served;
 use edge_lines::{SinkFailed, write_all};
@@ -38,16 +42,17 @@ pub struct Outcome<N: Net> {
 }
 
 /// Runs the program on the words behind its name. Those that ask for `world` have the schedule on
-/// the input played, which is `run_world`; those that ask for `serve` have what connects served
-/// over the net, which is `run_serve`; and those that ask for `script` have the script on the input
-/// played over a link that the net dials, which is `run_script`. Words outside the definition, or
-/// that name what is not built yet, are answered by the line `usage`, and nothing is read.
+/// the input played, which is `run_world`; those that ask for `storm` have the schedule of a number
+/// played, which is `run_storm`; those that ask for `serve` have what connects served over the net,
+/// which is `run_serve`; and those that ask for `script` have the script on the input played over a
+/// link that the net dials, which is `run_script`. Words outside the definition, or that name what
+/// is not built yet, are answered by the line `usage`, and nothing is read.
 ///
 /// What is promised of bytes holds where the source and the sink make theirs known, as those in
 /// memory do. The body is the same over every source and sink, so over the standard streams it
 /// does the same with the bytes that the system gives and takes; and if the call returns there,
 /// which no proof says of a read that waits, the rest of the promises hold too.
-pub fn run<R: Threads + Wait + Eprint + Sync, S: Source, K: Sink, N: Net, C: Clock + Sync>(
+pub fn run<R: Threads + Wait + Terminal + Sync, S: Source, K: Sink, N: Net, C: Clock + Sync>(
     rt: &R,
     alloc: Global,
     words: &[String],
@@ -61,6 +66,7 @@ pub fn run<R: Threads + Wait + Eprint + Sync, S: Source, K: Sink, N: Net, C: Clo
     ensures usage_only { result.status ≡ status.Usage
         → command_of (map string_bytes words.now) ≡ None }
     ensures unread { command_of (map string_bytes words.now) ≡ None → input.new ≡ input.old }
+    ensures inputless { AsksForStorm (map string_bytes words.now) → input.new ≡ input.old }
     ensures offline { ¬ AsksToServe (map string_bytes words.now)
         → ¬ AsksForScript (map string_bytes words.now) → net.new ≡ net.old }
     ensures unserved { ¬ AsksToServe (map string_bytes words.now) → result.served ≡ None }
@@ -80,6 +86,10 @@ pub fn run<R: Threads + Wait + Eprint + Sync, S: Source, K: Sink, N: Net, C: Clo
         → ¬ Counted (K.counts output.old).faults (K.counts output.new).faults
         → IfSome (S.left input.old)
         (λ text. IsVerdict (limits_of settings) (text_lines text) result.status) }
+    ensures storm { (settings : StormSettings)
+        → command_of (map string_bytes words.now) ≡ Some (asked.Storm settings)
+        → Writes (StormEnds settings.number settings.steps) result.status
+        (K.contents output.old) (K.contents output.new) }
     ensures serve { (settings : ServeSettings)
         → command_of (map string_bytes words.now) ≡ Some (asked.Serve settings)
         → ServeGives settings N.Acceptor.counts N.Acceptor.left result.served result.status
@@ -92,7 +102,8 @@ pub fn run<R: Threads + Wait + Eprint + Sync, S: Source, K: Sink, N: Net, C: Clo
         (K.contents output.old) (K.contents output.new) }
     ensures net { result.status ≡ status.NetFault
         → NetFailed result.served (N.counts net.old) (N.counts net.new) }
-    ensures done { ¬ AsksToServe (map string_bytes words.now) → result.status ≡ status.Done
+    ensures done { ¬ AsksToServe (map string_bytes words.now)
+        → ¬ AsksForStorm (map string_bytes words.now) → result.status ≡ status.Done
         → Counted (S.counts input.old).ends (S.counts input.new).ends }
     ensures read { result.status ≡ status.ReadFault
         → Counted (S.counts input.old).faults (S.counts input.new).faults }
@@ -122,10 +133,19 @@ pub fn run<R: Threads + Wait + Eprint + Sync, S: Source, K: Sink, N: Net, C: Clo
             served: None,
             session: None,
         },
+        Asked::Storm(settings) => Outcome {
+            status: run_storm(
+                alloc,
+                settings.number,
+                settings.steps,
+                &mut Progress::new(rt, clock),
+                output,
+            ),
+            served: None,
+            session: None,
+        },
         Asked::Serve(settings) => run_serve(rt, alloc, settings, output, net, clock),
         Asked::Script(settings) => run_script(rt, alloc, &settings, input, output, net),
-        // The table of what is not built yet refuses the others.
-        _ => unreachable!(),
     }
 }
 

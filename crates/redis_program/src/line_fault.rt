@@ -84,7 +84,8 @@ impl fmt::Display for LineFault<'_> {
                 write!(
                     f,
                     "`{word}` is no name, which has 1 to 16 of a to z and 0 to 9; .data behind a \
-                     client's is its link, for out, serve, send, recv, flow and cut"
+                     client's is its link, and .inv that for invalidations, for out, serve, send, \
+                     recv, flow and cut"
                 )
             }
             LineFault::BadCount(word) => {

@@ -4,11 +4,13 @@
 mod dispatch;
 mod kept;
 mod line_fault;
+mod progress;
 mod schedule;
 mod script;
 mod script_fault;
 mod serve;
 mod status;
+mod storm;
 #[cfg(test)]
 mod tests;
 
@@ -79,7 +81,8 @@ fn refuse_words<K: Sink>(rt: &impl Eprint, error: &io::Error, output: &mut K) ->
 fn explain_words(rt: &impl Eprint, words: &[String]) {
     if asks_for_pages(words) {
         let _ = eprintln!(rt;
-            "zeovalki: the launcher has pages of help: ./zeovalki help [world | serve | script]\n\
+            "zeovalki: the launcher has pages of help: \
+             ./zeovalki help [world | storm | serve | script]\n\
              zeovalki: there is no version but the commit that was built"
         );
     } else if let Some(wrong) = find_wrong(words) {

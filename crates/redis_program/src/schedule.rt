@@ -185,7 +185,8 @@ fn put_lines(lines: &Lines, text: &mut Vec<u8>) -> Result<(), NoMemory>
     Ok(())
 }
 
-fn write_last<K: Sink>(alloc: Global, ending: Ending, output: &mut K) -> Status
+/// Writes the last line of an ending.
+pub fn write_last<K: Sink>(alloc: Global, ending: Ending, output: &mut K) -> Status
     ensures { LastGives ending result (K.contents output.old) (K.contents output.new)
         (K.counts output.old) (K.counts output.new) }
 {

@@ -3,6 +3,7 @@ mod scripts;
 
 use super::dispatch::run;
 use super::line_fault::{find_line_fault, find_refusal};
+use super::progress::Terminal;
 use super::status::Status;
 use edge_links::{
     AcceptStep, FixedClock, LinkStep, ListedNet, Listening, MemoryAcceptor, MemoryLink, MemoryNet,
@@ -34,7 +35,7 @@ fn words_of(alloc: Global, line: &str) -> Result<Vec<String>, AllocError> {
 }
 
 /// The status of a run over no net, once the rest of its outcome is let go of.
-fn status_of<R: Threads + Wait + Eprint + Sync, S: Source, K: Sink>(
+fn status_of<R: Threads + Wait + Terminal + Sync, S: Source, K: Sink>(
     rt: &R,
     alloc: Global,
     words: &[String],
@@ -73,7 +74,25 @@ fn a_run_writes_the_transcript_and_the_last_line_of_its_status(
             Status::Usage,
             "usage\n",
         ),
-        ("storm --number 1 --steps 0", "", Status::Usage, "usage\n"),
+        ("storm --steps 1", "", Status::Usage, "usage\n"),
+        (
+            "storm --number 1 --steps 200001",
+            "",
+            Status::Usage,
+            "usage\n",
+        ),
+        (
+            "storm --number 1 --steps 0",
+            "raw r\n",
+            Status::Done,
+            "steps 0\nentries 24\nhits 0\nmisses 0\nheld 0\n",
+        ),
+        (
+            "storm --number 0 --steps 1",
+            "",
+            Status::Done,
+            "steps 1\nentries 24\nhits 0\nmisses 0\nheld 0\n",
+        ),
         ("serve --port 0", "", Status::Usage, "usage\n"),
         (
             "serve --port 7000 --table-max 5",
@@ -445,7 +464,7 @@ fn a_person_is_told_what_is_wrong_with_a_line(rt: HostRuntime) -> Result<(), Fai
         (
             "raw rR",
             "`rR` is no name, which has 1 to 16 of a to z and 0 to 9; .data behind a client's is \
-             its link, for out, serve, send, recv, flow and cut",
+             its link, and .inv that for invalidations, for out, serve, send, recv, flow and cut",
         ),
         (
             "serve r 05",
@@ -543,7 +562,7 @@ fn net_with(alloc: Global, requests: &str) -> Result<ListedNet, AllocError> {
 }
 
 /// The status of a run over this net, and whether it served, once what it served is let go of.
-fn serves<R: Threads + Wait + Eprint + Sync>(
+fn serves<R: Threads + Wait + Terminal + Sync>(
     rt: &R,
     alloc: Global,
     words: &[String],

@@ -30,7 +30,7 @@ use Rattle.server_links.proofs.Names.{unplaced}
 use Rattle.server_links.proofs.Outcomes.{Meets, meets_does, meets_stays, meets_then, meets_weaker}
 use Rattle.world_run.specs.WorldState.{EndState, HaveClients, MemberState, WorldState, client_at}
 use Rattle.world_run.specs.WorldState.{end_at, fresh_end, fresh_member, link_on, member_at}
-use Rattle.world_run.specs.WorldState.{no_setup, place_on}
+use Rattle.world_run.specs.WorldState.{HaveEnds, no_setup, place_on}
 use Rattle.world_run.specs.World.{Stepped, client_step, connect, fresh_ends, is_served, is_taken}
 use Rattle.world_run.specs.World.{join, links_step, not_served, setup_by}
 use Rattle.world_run.specs.World as world
@@ -39,7 +39,7 @@ use Rattle.world_run.proofs.LinkEvents.{Comes, comes_refused, comes_unread, part
 use Rattle.world_run.proofs.LinkEvents.{stands_again}
 use Rattle.world_run.proofs.Links.{IsUnread, Mute, Mutes, step_moved, step_mutes}
 use Rattle.world_run.proofs.Members.{MemberPart, served_mode}
-use Rattle.world_run.proofs.Worlds.{HaveEnds, NoneHas, Stable, WorldPart, WorldStands}
+use Rattle.world_run.proofs.Worlds.{NoneHas, Stable, WorldPart, WorldStands}
 
 -- ---- a link that is new
 

@@ -2,6 +2,7 @@ pub mod Answering
 pub mod Counts
 pub mod Linked
 pub mod Printing
+pub mod Holding
 pub mod Received
 pub mod Replied
 mod Below
@@ -41,4 +42,5 @@ mod Places
 mod Refusals
 mod RefusedEvents
 pub mod History
+pub mod Played
 pub mod WorldCode

@@ -19,7 +19,8 @@ use Rattle.server_links.proofs.Events.{serves}
 use Rattle.server_links.proofs.Names.{unplaced}
 use Rattle.world_run.specs.WorldState.{WorldState, client_at, end_at, member_at, start_with}
 use Rattle.world_run.specs.Members.{client_of}
-use Rattle.world_run.specs.WorldHistory.{AllServiced, HoldsCurrent, OneHistory, PartHistory}
+use Rattle.world_run.specs.WorldHistory.{AllServiced, EndsStand, HoldsCurrent, OneHistory}
+use Rattle.world_run.specs.WorldHistory.{PartHistory}
 use Rattle.world_run.specs.WorldHistory.{Serviced, put_on, said_by, said_to, taken_bytes}
 use Rattle.world_run.specs.WorldTranscript.{after, heard, heard_at, transcript}
 use Rattle.world_run.specs.World.{step}
@@ -71,6 +72,15 @@ pub all_serviced : Currency → (l : Limits) (raw : List ℕ → List ℕ) (line
 all_serviced law l raw lines w p at lt =
     (serviced l raw lines w p at lt, holds_current law l raw lines w p at lt)
 
+ends_stand : (l : Limits) (raw : List ℕ → List ℕ) (lines : List Line) (w : WorldState)
+    → WorldPart l raw lines w → EndsStand w
+ends_stand l raw lines w p = record {
+  clients = p.clients;
+  named = λ at lt. let part = p.each at lt in (part.named, part.place_is);
+  each = p.ends;
+  distinct = p.distinct;
+}
+
 pub part_history : Currency → (l : Limits) (raw : List ℕ → List ℕ) (lines : List Line)
     (w : WorldState) (events : List Event) → WorldPart l raw lines w
     → ((n : List ℕ) → raw n ≡ said_to n events) → PartHistory l events lines w
@@ -85,6 +95,7 @@ part_history law l raw lines w events p raw_is = record {
   unread = λ name none. p.links.unread name (unplaced name w.links none);
   told = told_exactly w.links.limits w.links.past p.links.history.legal;
   clients = all_serviced law l raw lines w p;
+  ends = ends_stand l raw lines w p;
 }
 
 -- ---- after a schedule
@@ -162,6 +173,7 @@ whole_history law l log_max events w valid e =
       unread = λ name none. s.links.unread name (unplaced name w.links none);
       told = told_exactly w.links.limits w.links.past s.links.history.legal;
       clients = all_serviced law l raw lines w p;
+      ends = ends_stand l raw lines w p;
       logs = logs_stand l log_max events w valid (stands_start l log_max) e;
       clock = keeps_time events first w tt e;
     }

@@ -21,7 +21,7 @@ use Rattle.server_links.proofs.Names.{names_itself}
 use Rattle.server_links.proofs.Outcomes.{meets_weaker, meets_within}
 use Rattle.world_run.specs.WorldState.{EndState, HaveClients, LinkEnd, MemberState, WorldState}
 use Rattle.world_run.specs.WorldState.{client_at, end_at, fresh_end, fresh_member, member_at}
-use Rattle.world_run.specs.WorldState.{link_on, no_setup}
+use Rattle.world_run.specs.WorldState.{HaveEnds, link_on, no_setup}
 use Rattle.world_run.specs.Members.{Seat, links_do, seat_at, with_seat}
 use Rattle.world_run.specs.Members as members
 use Rattle.world_run.specs.MemberTurns.{Turned}
@@ -31,7 +31,7 @@ use Rattle.world_run.proofs.Links.{name_of_event, step_moved}
 use Rattle.world_run.proofs.Members.{EndPart}
 use Rattle.world_run.proofs.Seats.{IsEnd, One, OtherKept, Plain, Seating, Working, by_place}
 use Rattle.world_run.proofs.Seats.{other_stays, parts_longer, stands_lines, unread}
-use Rattle.world_run.proofs.Worlds.{HaveEnds, Holds, NoneHas, Reads, Stable, WorldPart, linked}
+use Rattle.world_run.proofs.Worlds.{Holds, NoneHas, Reads, Stable, WorldPart, linked}
 
 -- ---- an event of the links
 

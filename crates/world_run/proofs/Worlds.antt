@@ -22,7 +22,7 @@ use Rattle.server_links.proofs.Accounts.{Part}
 use Rattle.server_links.proofs.Carries.{read_more}
 use Rattle.server_links.proofs.LinksStand.{Stands, PartStands, stands_part}
 use Rattle.server_links.proofs.Outcomes.{Meets}
-use Rattle.world_run.specs.WorldState.{EndState, HaveClients, MemberState, WorldState}
+use Rattle.world_run.specs.WorldState.{EndState, HaveClients, HaveEnds, MemberState, WorldState}
 use Rattle.world_run.specs.WorldState.{client_at, end_at, member_at}
 use Rattle.world_run.specs.Members.{client_of}
 use Rattle.world_run.specs.WorldHistory.{taken_bytes}
@@ -44,14 +44,6 @@ Reads read e m =
 -- no client has an end of this link
 abbrev pub NoneHas : WorldState → List ℕ → Type 0
 NoneHas w name = (k : ℕ) → k < length w.ends → (end_at w.ends k).end.link ≡ name → ⊥
-
--- each client has an end of each of its links
-abbrev pub HaveEnds : WorldState → Type 0
-HaveEnds w =
-    (i : ℕ) → i < length w.members → (u : Wire)
-    → HasWire (member_at w.members i).state.setup.mode.shape u
-    → (k : ℕ) × (k < length w.ends) × ((end_at w.ends k).end.client ≡ i)
-    × ((end_at w.ends k).end.wire ≡ u)
 
 -- what is said of each end of a client, of its place, the links, what was read on its link and put
 -- there

@@ -1,6 +1,7 @@
 pub mod WorldState
 pub mod Members
 pub mod ClientMoves
+pub mod Counts
 pub mod MemberTurns
 pub mod World
 pub mod WorldTranscript
@@ -9,3 +10,4 @@ pub mod ScheduleLog
 pub mod WorldClock
 pub mod WorldFlows
 pub mod WorldHistory
+pub mod Played

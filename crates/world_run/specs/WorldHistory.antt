@@ -44,8 +44,9 @@ use Rattle.server_links.specs.LinksState.{at_place}
 use Rattle.server_links.specs.LinkSteps.{place_of}
 use Rattle.server_links.specs.OneHistory.{History, PartServes, Serves, read_on}
 use Rattle.server_links.specs.Outcome.{Reached}
-use Rattle.world_run.specs.WorldState.{MemberState, WorldState, client_at, end_at, end_of_link}
-use Rattle.world_run.specs.WorldState.{link_on, member_at, place_on, start_with}
+use Rattle.world_run.specs.WorldState.{HaveClients, HaveEnds, MemberState, WorldState, client_at}
+use Rattle.world_run.specs.WorldState.{end_at, end_of_link, link_on, member_at, place_on}
+use Rattle.world_run.specs.WorldState.{start_with}
 use Rattle.world_run.specs.Members.{client_of}
 use Rattle.world_run.specs.ScheduleLog.{LogsStand}
 use Rattle.world_run.specs.WorldTranscript.{after, heard, transcript}
@@ -118,6 +119,20 @@ AllServiced w =
     (at : ℕ) → at < length w.members
     → Serviced w (member_at w.members at) × HoldsCurrent w (member_at w.members at)
 
+-- ---- the ends of clients
+
+-- Each end in the list is one of a client, at a link that is named after the client; each client
+-- has one at each of its links, and no link has two.
+pub record EndsStand (w : WorldState) : Type 0 where
+  pub clients : HaveClients w
+  pub named : (at : ℕ) → at < length w.ends →
+      let e = (end_at w.ends at).end in
+      (e.link ≡ link_on e.wire (client_at w at).name)
+      × (e.place ≡ place_on e.wire (client_at w at))
+  pub each : HaveEnds w
+  pub distinct : (j k : ℕ) → j < length w.ends → k < length w.ends
+      → (end_at w.ends k).end.link ≡ (end_at w.ends j).end.link → k ≡ j
+
 -- ---- a schedule
 
 -- after a schedule that met no fault, from the world where it began
@@ -133,6 +148,7 @@ pub record OneHistory (first : WorldState) (events : List Event) (lines : List L
   -- oldest keys past the limit alone
   pub told : ToldExactly w.links.limits w.links.past
   pub clients : AllServiced w
+  pub ends : EndsStand w
   pub logs : LogsStand first events lines w
   -- the clock begins at 0
   pub clock : KeepsTime 0 first events
@@ -150,6 +166,7 @@ pub record PartHistory (l : Limits) (events : List Event) (lines : List Line)
   -- oldest keys past the limit alone
   pub told : ToldExactly w.links.limits w.links.past
   pub clients : AllServiced w
+  pub ends : EndsStand w
 
 -- ---- one more event
 

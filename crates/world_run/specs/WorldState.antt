@@ -131,3 +131,11 @@ HaveClients w =
     let e = (end_at w.ends at).end in
     (e.client < length w.members)
     × HasWire (client_at w at).state.setup.mode.shape e.wire
+
+-- each client has an end of each of its links
+abbrev pub HaveEnds : WorldState → Type 0
+HaveEnds w =
+    (i : ℕ) → i < length w.members → (u : Wire)
+    → HasWire (member_at w.members i).state.setup.mode.shape u
+    → (k : ℕ) × (k < length w.ends) × ((end_at w.ends k).end.client ≡ i)
+    × ((end_at w.ends k).end.wire ≡ u)

@@ -8,6 +8,7 @@ ghost use Rattle.shared_cache.specs.Held.{held, held_in_place};
 ghost use Rattle.shared_cache.specs.declared.log.ClientCall.TheVariants as call;
 ghost use Rattle.shared_cache.specs.declared.log.ClientReply.TheVariants as reply;
 ghost use Rattle.server_links.specs.Outcome.{Gives};
+ghost use Rattle.world_run.specs.Counts.{held_of};
 ghost use Rattle.world_run.specs.WorldState.{LinkEnd};
 ghost use Rattle.world_run.specs.ClientMoves.{ask_lines, held_lines, listed_line, poll_lines};
 ghost use Rattle.world_run.specs.ClientMoves.{refused_lines, send_lines, show, turn};
@@ -213,6 +214,13 @@ impl Member {
             lines.push(line)?;
         }
         Ok(())
+    }
+
+    /// How many queries it holds.
+    pub fn held(&self) -> Result<u64, NoMemory>
+        ensures { IfOk result (λ n. n ≡ held_of self.now) }
+    {
+        Ok(self.state.held_in_order()?.len() as u64)
     }
 
     /// What it holds, and how far it has processed what was sent to it.

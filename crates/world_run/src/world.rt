@@ -8,6 +8,7 @@ ghost use Rattle.shared_cache.specs.declared.log.Shape.TheVariants.{Pair, Single
 ghost use Rattle.server_links.specs.LinkEvent.{Over};
 ghost use Rattle.server_links.specs.LinksState.{AreApart, names};
 ghost use Rattle.server_links.specs.Outcome.{Gives};
+ghost use Rattle.world_run.specs.Counts.{all_held};
 ghost use Rattle.world_run.specs.World.{StepGives, client_does, end_named, flow_at, is_served};
 ghost use Rattle.world_run.specs.World.{is_taken, links_step, making, setup_by};
 ghost use Rattle.world_run.specs.WorldHistory.{StaysInHistory};
@@ -87,6 +88,24 @@ impl World {
             living: Living::new(alloc),
             log_max,
         })
+    }
+
+    /// How many entries the history has.
+    pub fn entries(&self) -> u64
+        ensures { result ≡ length self.now.links.past }
+    {
+        self.links.entries()
+    }
+
+    /// How many queries the clients hold.
+    pub fn held(&self) -> Result<u64, NoMemory>
+        ensures { IfOk result (λ n. n ≡ all_held self.now) }
+    {
+        let mut count: u64 = 0;
+        for member in self.members.as_slice() {
+            count = count.checked_add(member.held()?).ok_or(NoMemory)?;
+        }
+        Ok(count)
     }
 
     /// Plays an event, and appends its lines.

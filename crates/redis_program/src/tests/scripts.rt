@@ -1,5 +1,6 @@
 //! Scripts over a link in memory that answers as a server would.
 use super::super::dispatch::{Outcome, run};
+use super::super::progress::Terminal;
 use super::super::script_fault::find_script_fault;
 use super::{text_bytes, words_of};
 use edge_links::{
@@ -114,7 +115,7 @@ fn sent_of(alloc: Global, outcome: &Outcome<ListedNet>) -> Result<String, AllocE
 }
 
 /// The number of the status of a run and what it sent, once the rest is let go of.
-fn reached_by<R: Threads + Wait + Eprint + Sync>(
+fn reached_by<R: Threads + Wait + Terminal + Sync>(
     rt: &R,
     alloc: Global,
     words: &[String],
@@ -128,7 +129,7 @@ fn reached_by<R: Threads + Wait + Eprint + Sync>(
     (outcome.status.number(), sent)
 }
 
-fn play<R: Threads + Wait + Eprint + Sync>(
+fn play<R: Threads + Wait + Terminal + Sync>(
     rt: &R,
     alloc: Global,
     options: &str,

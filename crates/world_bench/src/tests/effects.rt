@@ -1,13 +1,14 @@
 //! What was sent to each connection of a schedule, found again by a scan of the effects that a book
 //! tells, to which a world's history is played once more.
 ghost use Rattle.std.specs.Prelude.{IfOk, IfSome};
+ghost use Rattle.script_text.specs.Valid.{IsValid};
 ghost use Rattle.serial_model.specs.Steps.{AreValid, IsCallable};
 
 use super::schedule_table::{SCHEDULES, SMALL_OUTPUT, SMALL_TABLE};
 use super::schedules::LIMITS;
 use past_effects::sent_slow;
 use resp_value::{NoMemory, Octets};
-use script_text::{Event, Line, Lines, law_events_are_valid, read_event};
+use script_text::{Event, Line, Lines, Storm, law_events_are_valid, read_event};
 use serial_model::{BookCall, Effect, Limits, Post};
 use server_book::Book;
 use std::alloc::Global;
@@ -123,8 +124,27 @@ impl Replay {
     }
 }
 
-// Plays a line of a schedule, and what its world did to the book. It answers whether the world
-// goes on.
+// Plays an event, and what its world did to the book. It answers whether the world goes on.
+fn play_event(
+    alloc: Global,
+    world: &mut World,
+    replay: &mut Replay,
+    event: &Event,
+) -> Result<bool, NoMemory>
+    requires { IsValid event.now }
+{
+    if let Event::Now(now) = event {
+        replay.now = *now;
+    }
+    let mut lines = Lines::new(alloc);
+    let goes_on = world.step(event, &mut lines).is_ok();
+    for line in lines.as_slice() {
+        replay.play(line)?;
+    }
+    Ok(goes_on)
+}
+
+// The same of a line of a schedule.
 fn play_line(
     alloc: Global,
     world: &mut World,
@@ -132,18 +152,10 @@ fn play_line(
     line: &str,
 ) -> Result<bool, NoMemory> {
     law_events_are_valid();
-    let Some(event) = read_event(alloc, line.as_bytes())? else {
-        return Ok(false);
-    };
-    if let Event::Now(now) = &event {
-        replay.now = *now;
+    match read_event(alloc, line.as_bytes())? {
+        Some(event) => play_event(alloc, world, replay, &event),
+        None => Ok(false),
     }
-    let mut lines = Lines::new(alloc);
-    let goes_on = world.step(&event, &mut lines).is_ok();
-    for line in lines.as_slice() {
-        replay.play(line)?;
-    }
-    Ok(goes_on)
 }
 
 // Plays the lines of a schedule, up to the first that meets a fault, and looks for what was sent.
@@ -207,4 +219,37 @@ fn a_scan_of_effects_finds_what_a_schedule_sends(rt: HostRuntime) -> Result<(), 
     are_found(&rt, alloc, small_table, SMALL_TABLE)?;
     are_found(&rt, alloc, small_output, SMALL_OUTPUT)?;
     are_found(&rt, alloc, small_output, SCHEDULES)
+}
+
+// Plays a storm of at most 400 steps, and looks for what was sent.
+fn finds_in_storm(
+    alloc: Global,
+    world: &mut World,
+    replay: &mut Replay,
+    number: u64,
+    steps: u64,
+) -> Result<bool, NoMemory> {
+    let mut storm = Storm::new(alloc, number, steps);
+    for _ in 0..1_000 {
+        let Some(event) = storm.next()? else {
+            return replay.is_found(alloc, &LIMITS);
+        };
+        if !play_event(alloc, world, replay, &event)? {
+            return Ok(false);
+        }
+    }
+    Ok(false)
+}
+
+fn is_found_in_storm(alloc: Global, number: u64, steps: u64) -> Result<bool, NoMemory> {
+    let mut world = World::new(alloc, LIMITS)?;
+    let mut replay = Replay::new(alloc, LIMITS)?;
+    finds_in_storm(alloc, &mut world, &mut replay, number, steps)
+}
+
+#[test]
+fn a_scan_of_effects_finds_what_a_storm_sends(rt: HostRuntime) -> Result<(), Fail> {
+    let alloc = rt.alloc();
+    assert!(rt; is_found_in_storm(alloc, 7, 300)?);
+    Ok(())
 }

@@ -1,13 +1,16 @@
-use Rattle.std.proofs.Common.{arith, ◌∙◌, Some, ap, inl, inr, map, subst, sym}
+use Rattle.std.proofs.Common.{arith, ◌∙◌, [], Some, ap, map, refl, subst, sym}
 use Rattle.std.specs.Prelude.{string_bytes}
 use Rattle.serial_model.specs.Steps.{AreValid}
 use Rattle.redis_program.specs.declared.status.Ending.TheVariants.{NoMemory}
 use Rattle.redis_program.specs.Headline.{limits_of}
-use Rattle.redis_program.proofs.Finishing.{finishes, writes_known}
+use Rattle.redis_program.specs.Storming.{StormEnds}
+use Rattle.edge_links.proofs.Bytes.{appends_none}
+use Rattle.redis_program.proofs.Finishing.{ends_as_said, finishes, writes_known}
 use Rattle.redis_program.proofs.Playing.{no_world}
-use Rattle.redis_program.proofs.Asked.{capacity_valid, limits_valid, only_built, settings_valid}
+use Rattle.redis_program.proofs.Asked.{capacity_valid, limits_valid, settings_valid, steps_valid}
 use Rattle.redis_program.proofs.Scripting.{script_done, script_net, script_read, wordless_script}
 use Rattle.redis_program.proofs.Serving.{last_not_net, wordless, world_not_net}
+use Rattle.redis_program.proofs.Storming.{storm_not_read, storm_not_usage}
 use Rattle.redis_program.proofs.dispatch.run.Goals as goal
 
 pub run_world-requires : goal.run_world-requires
@@ -15,6 +18,11 @@ run_world-requires g c =
     let is = sym c.in-Ok-Some.ensures ∙ c.in-Ok-Some.field-0-is ∙ ap Some c.in-World.is in
     subst AreValid (sym c.limits_of.ensures)
     (limits_valid (map string_bytes c.args.words.now) c.in-World.settings is)
+
+pub run_storm-requires : goal.run_storm-requires
+run_storm-requires g c =
+    let is = sym c.in-Ok-Some.ensures ∙ c.in-Ok-Some.field-0-is ∙ ap Some c.in-Storm.is in
+    steps_valid (map string_bytes c.args.words.now) c.in-Storm.settings is
 
 pub run_serve-requires-clause-limits : goal.run_serve-requires-clause-limits
 run_serve-requires-clause-limits g c = λ κs within.
@@ -37,15 +45,6 @@ run_script-requires-clause-most g c = λ κs within.
     let is = sym c.in-Ok-Some.ensures ∙ c.in-Ok-Some.field-0-is ∙ ap Some c.in-Script.is in
     (capacity_valid (map string_bytes c.args.words.now) c.in-Script.settings is).1
 
-pub unreachable-requires : goal.unreachable-requires
-unreachable-requires g c =
-    let is = sym c.in-Ok-Some.ensures ∙ c.in-Ok-Some.field-0-is in
-    elim (only_built (map string_bytes c.args.words.now) c.in-Ok-Some.asked is) [
-      | inl world ↦ c.in_default.not-World world.0 world.1
-      | inr (inl server) ↦ c.in_default.not-Serve server.0 server.1
-      | inr (inr script) ↦ c.in_default.not-Script script.0 script.1
-    ]
-
 pub returns-in-Ok-None-clause-net : goal.returns-in-Ok-None-clause-net
 returns-in-Ok-None-clause-net g c = grind arith
 
@@ -66,6 +65,13 @@ returns-in-Err-clause-script g c = λ settings e.
     (g.S.Source.left c.args.input.now) (g.S.Source.counts c.args.input.now)
     (g.N.Net.counts c.args.net.now)
 
+pub returns-in-Err-clause-storm : goal.returns-in-Err-clause-storm
+returns-in-Err-clause-storm g c = λ settings e.
+    let output = g.K.Sink.contents c.args.output.now in
+    ends_as_said (StormEnds settings.number settings.steps) NoMemory [] c.write_no_memory.result
+    output output (g.K.Sink.contents c.write_no_memory.new.output) _ _ (λ d. cc) refl refl
+    (appends_none output) c.write_no_memory.ensures
+
 pub returns-in-World-clause-net : goal.returns-in-World-clause-net
 returns-in-World-clause-net g c = grind (arith, world_not_net)
 
@@ -74,6 +80,27 @@ returns-in-World-clause-serve g c = grind arith
 
 pub returns-in-World-clause-script : goal.returns-in-World-clause-script
 returns-in-World-clause-script g c = grind arith
+
+pub returns-in-Storm-clause-net : goal.returns-in-Storm-clause-net
+returns-in-Storm-clause-net g c = grind (arith, world_not_net)
+
+pub returns-in-Storm-clause-read : goal.returns-in-Storm-clause-read
+returns-in-Storm-clause-read g c = grind (arith, storm_not_read)
+
+pub returns-in-Storm-clause-usage_only : goal.returns-in-Storm-clause-usage_only
+returns-in-Storm-clause-usage_only g c = grind (arith, storm_not_usage)
+
+pub returns-in-Storm-clause-done : goal.returns-in-Storm-clause-done
+returns-in-Storm-clause-done g c = grind arith
+
+pub returns-in-Storm-clause-storm : goal.returns-in-Storm-clause-storm
+returns-in-Storm-clause-storm g c = grind arith
+
+pub returns-in-Storm-clause-serve : goal.returns-in-Storm-clause-serve
+returns-in-Storm-clause-serve g c = grind arith
+
+pub returns-in-Storm-clause-script : goal.returns-in-Storm-clause-script
+returns-in-Storm-clause-script g c = grind arith
 
 pub returns-in-Serve-clause-offline : goal.returns-in-Serve-clause-offline
 returns-in-Serve-clause-offline g c = grind arith
