@@ -36,22 +36,51 @@ enum {
     ZEOVALKI_NOT_READY = 8,  /* the server has not answered the set-up yet: feed, and ask again */
     ZEOVALKI_CONTROL = 9,    /* the command would change how the server serves this connection */
     ZEOVALKI_NO_NUMBER = 10, /* nobody waits for a reply of this number */
-    ZEOVALKI_LOG_FULL = 11,  /* the log has as many entries as it may: make another client */
+    ZEOVALKI_LOG_FULL = 11,  /* 2^64 - 1 calls and values were counted: it can't come in practice */
     ZEOVALKI_NO_MEMORY = 12, /* memory ran out; zeovalki_ended tells whether the link has ended */
     ZEOVALKI_NO_REQUEST = 13, /* the bytes begin with no whole command */
     ZEOVALKI_NO_QUERY = 14,  /* the command is no read that can be held: send it */
-    ZEOVALKI_BAD_LIMIT = 15, /* the capacity is not 1 to 1,000,000, or the log is below 1,000 */
+    ZEOVALKI_BAD_LIMIT = 15, /* the capacity is not 1 to 1,000,000 */
+    ZEOVALKI_BAD_TRACKING = 16, /* there is no tracking of that number */
+    ZEOVALKI_BAD_NOLOOP = 17,   /* noloop is neither 0 nor 1 */
+    ZEOVALKI_BAD_PREFIXES = 18, /* prefixes without BCAST, or bytes that begin with no whole words */
+    ZEOVALKI_BAD_RESERVED = 19, /* what is for options to come is not 0 */
 };
 
-/* Makes a client that holds at most `capacity` keys, and whose log has at most `log_max` entries.
- * What was fetched more than `max_age` ago is fetched anew, by the times that zeovalki_time tells,
- * in any unit; 0 is no bound.
- * DONE, and *client points to a client that has done nothing yet, whose first bytes for the server
- * are its set-up; BAD_LIMIT exactly where the capacity is 0 or above 1,000,000, or the log_max below
- * 1,000; or NO_MEMORY. Where it is not DONE, *client is as before. *client has a value at the call
- * (NULL, say), which is written over and not freed. */
-zeovalki_status zeovalki_new(uint64_t capacity, uint64_t log_max, uint64_t max_age,
-                             zeovalki_client **client);
+/* How the server is to track what is read (the page of CLIENT TRACKING). */
+enum {
+    ZEOVALKI_TRACK_DEFAULT = 0, /* it remembers each key that was read */
+    ZEOVALKI_TRACK_OPTIN = 1,   /* those of the reads that can be held: each goes behind a word */
+    ZEOVALKI_TRACK_OPTOUT = 2,  /* likewise: a word goes before each read that can't be held */
+    ZEOVALKI_TRACK_BCAST = 3,   /* it remembers none, and tells of each key with a prefix */
+};
+
+/* What a client is made of. Set all to 0 (`zeovalki_options options = {0};`), then what is wanted:
+ * a later version may make an option of a word of `reserved`, and at its 0 does what this one does.
+ */
+typedef struct zeovalki_options {
+    uint64_t capacity;    /* at most so many keys are held: 1 to 1,000,000 */
+    uint64_t max_age;     /* what was fetched longer ago is fetched anew, by the times that
+                             zeovalki_time tells, in any unit; 0 is no bound */
+    uint64_t tracking;    /* one of ZEOVALKI_TRACK_.. */
+    uint64_t noloop;      /* 1: the server does not tell of this connection's own writes; else 0 */
+    uint64_t reserved[4]; /* 0 */
+} zeovalki_options;
+
+/* Makes a client. DONE, and *client points to one that has done nothing yet, whose first bytes for
+ * the server are its set-up; or the first of BAD_LIMIT, BAD_TRACKING, BAD_NOLOOP and BAD_RESERVED
+ * that is so, and so exactly where the header says; or NO_MEMORY. Where it is not DONE, *client is as
+ * before. *client has a value at the call (NULL, say), which is written over and not freed. The
+ * options are read in the call alone. */
+zeovalki_status zeovalki_new(const zeovalki_options *options, zeovalki_client **client);
+
+/* As zeovalki_new, with prefixes for BCAST, written as a command is: a line, "user: object:\r\n", or
+ * for any bytes "*2\r\n$5\r\nuser:\r\n$7\r\nobject:\r\n". What stands behind that is not read, and
+ * no bytes are no prefixes: then the server tells of every key. Keys with none of the prefixes are
+ * fetched each time. It may also tell BAD_PREFIXES, last. A server refuses prefixes of which one
+ * begins with another one: then the link ends by its answer to the set-up. */
+zeovalki_status zeovalki_new_with_prefixes(const zeovalki_options *options, const uint8_t *prefixes,
+                                           size_t size, zeovalki_client **client);
 
 /* The time of the asks that follow, of a client with a bound: 0 until one is told. A time before the
  * latest counts as the latest. DONE, or ENDED after zeovalki_close. */
@@ -88,6 +117,38 @@ uint64_t zeovalki_ended(zeovalki_client *client);
 
 /* The number that the last call told, or 0. It changes nothing. */
 uint64_t zeovalki_number(zeovalki_client *client);
+
+/* What zeovalki_count counts. */
+enum {
+    ZEOVALKI_HITS = 0,          /* asks that were answered from the cache */
+    ZEOVALKI_MISSES = 1,        /* asks that sent a fetch, those of what was too old among them */
+    ZEOVALKI_INVALIDATIONS = 2, /* invalidations that the server sent, of a key, of several or of all */
+    ZEOVALKI_KEYS = 3,          /* keys that are held */
+    ZEOVALKI_BYTES_HELD = 4,    /* bytes of the queries and values that are held, as they are written */
+};
+
+/* The count of that name; 0 of any other name, and after zeovalki_close. KEYS and BYTES_HELD go over
+ * all that is held, and are UINT64_MAX where memory runs out for that; the others take no time. It
+ * changes nothing. */
+uint64_t zeovalki_count(zeovalki_client *client, uint64_t name);
+
+/* All of them at once. */
+typedef struct zeovalki_counts {
+    uint64_t hits;
+    uint64_t misses;
+    uint64_t invalidations;
+    uint64_t keys;
+    uint64_t bytes;
+} zeovalki_counts;
+
+static inline void zeovalki_stats(zeovalki_client *client, zeovalki_counts *counts)
+{
+    counts->hits = zeovalki_count(client, ZEOVALKI_HITS);
+    counts->misses = zeovalki_count(client, ZEOVALKI_MISSES);
+    counts->invalidations = zeovalki_count(client, ZEOVALKI_INVALIDATIONS);
+    counts->keys = zeovalki_count(client, ZEOVALKI_KEYS);
+    counts->bytes = zeovalki_count(client, ZEOVALKI_BYTES_HELD);
+}
 
 /* The size of the last call's answer, which is copied to `out` where `room` is enough for it. Where
  * it is not, nothing is copied. It changes nothing else, so it may be called again with more room.

@@ -1,5 +1,5 @@
-"""The Python binding against a server that stands in for Redis, in threads of this test's own: one
-that stops reading, one that falls silent, interrupts, other threads, forks, and words and answers
+"""The Python binding of one thread against a server that stands in for Redis: one that stops reading,
+one that falls silent, interrupts, other threads, forks, settings, pipelines, and words and answers
 of each type. It ends with 1 where the binding does anything else than docs/library.md says."""
 
 import copy
@@ -9,125 +9,21 @@ import signal
 import socket
 import subprocess
 import sys
+import tempfile
 import threading
 import time
 import unittest
+import zipfile
 from pathlib import Path
 
-BINDING = Path(__file__).resolve().parents[1] / "bindings" / "python"
-sys.path.insert(0, os.environ.get("ZEOVALKI_BINDING", str(BINDING)))
+import stand_in
 
-from zeovalki import CachedRedis, Client, ReplyError  # noqa: E402
+from zeovalki import CachedRedis, Client, ReplyError
 
-
-def blob(text):
-    return b"$%d\r\n%b\r\n" % (len(text), text)
+TOP = Path(__file__).resolve().parents[1]
 
 
-def invalidation(key):
-    return b">2\r\n$10\r\ninvalidate\r\n*1\r\n" + blob(key)
-
-
-class Connection:
-    """One connection to the stand-in, in a thread of its own."""
-
-    def __init__(self, server, link):
-        self.server = server
-        self.link = link
-        self.number = len(server.connections)
-        threading.Thread(target=self.serve, daemon=True).start()
-
-    def serve(self):
-        try:
-            with self.link, self.link.makefile("rb") as heard:
-                while words := self.read(heard):
-                    self.server.heard.append(words)
-                    time.sleep(self.server.delay)
-                    if self.number not in self.server.silent:
-                        self.link.sendall(self.answer(words))
-        except (OSError, ValueError):
-            pass
-
-    def read(self, heard):
-        """The words of the next command; anything else is a fault of the client."""
-        line = heard.readline()
-        if not line.endswith(b"\r\n"):
-            return None
-        if line[:1] != b"*":
-            self.server.faults.append(line[:40])
-            return None
-        words = []
-        for _ in range(int(line[1:])):
-            size = heard.readline()
-            if not size.endswith(b"\r\n"):
-                return None
-            if size[:1] != b"$":
-                self.server.faults.append(size[:40])
-                return None
-            time.sleep(self.server.deaf)
-            word = heard.read(int(size[1:]) + 2)
-            if len(word) < int(size[1:]) + 2:
-                return None
-            words.append(word[:-2])
-        return words
-
-    def answer(self, words):
-        name, values = words[0].upper(), self.server.values
-        if name == b"GET":
-            return blob(values[words[1]]) if words[1] in values else b"_\r\n"
-        if name == b"SET":
-            values[words[1]] = words[2]
-            return b"+OK\r\n" + invalidation(words[1])
-        if name in (b"SETEX", b"EVAL"):
-            # the reply comes first, and the invalidation only with the next reply, as from Redis
-            values[words[-2]] = words[-1]
-            return b"+OK\r\n"
-        return self.server.answers.get(name, b"+OK\r\n")
-
-
-class StandIn:
-    """A server in small: strings, and answers that are given by the name of a command."""
-
-    def __init__(self):
-        self.values = {}
-        self.heard = []
-        self.faults = []
-        self.connections = []
-        self.silent = set()
-        self.deaf = 0
-        self.delay = 0
-        self.answers = {
-            b"HELLO": b"%1\r\n" + blob(b"proto") + b":3\r\n",
-            b"PING": b"+PONG\r\n",
-            b"ECHO": b"+echo\r\n",
-            b"SMEMBERS": b"~2\r\n$1\r\na\r\n$1\r\nb\r\n",
-            b"SLOWSET": b"~1\r\n*1\r\n$1\r\na\r\n",
-            b"XGROUP": b"-BUSYGROUP Consumer Group name already exists\r\n",
-            b"FCALL": b"-BUSY Redis is busy running a script\r\n",
-        }
-        self.listener = socket.create_server(("127.0.0.1", 0))
-        self.listener.setsockopt(socket.SOL_SOCKET, socket.SO_RCVBUF, 65536)
-        self.port = self.listener.getsockname()[1]
-        threading.Thread(target=self.accept, daemon=True).start()
-
-    def accept(self):
-        try:
-            while True:
-                link, _ = self.listener.accept()
-                self.connections.append(Connection(self, link))
-        except OSError:
-            pass
-
-    def names(self):
-        """The names of the commands that were heard, without those of the set-up."""
-        return [words[0] for words in self.heard if words[0] not in (b"HELLO", b"CLIENT")]
-
-
-class Test(unittest.TestCase):
-    def setUp(self):
-        self.server = StandIn()
-        self.addCleanup(self.server.listener.close)
-
+class Test(stand_in.Test):
     def connect(self, **options):
         redis = CachedRedis("127.0.0.1", self.server.port, **options)
         self.addCleanup(redis.close)
@@ -281,31 +177,23 @@ class Silent(Test):
 
     def test_the_socket_is_kept_alive(self):
         redis = self.connect()
-        self.assertNotEqual(
-            redis._socket.getsockopt(socket.SOL_SOCKET, socket.SO_KEEPALIVE), 0)
+        self.assertTrue(redis._link.keeps_alive())
 
 
 class Limits(Test):
     def test_a_limit_that_is_not_served_is_refused(self):
-        rows = [(0, 1000), (1_000_001, 1000), (2**64 + 5, 1000), (-1, 1000), (1, 5), (1, 999),
-                (1, 2**64 + 1000)]
-        for capacity, log_max in rows:
-            with self.assertRaises(ValueError, msg=(capacity, log_max)):
-                Client(capacity, log_max)
+        for capacity, max_age in [(0, 0), (1_000_001, 0), (2**64 + 5, 0), (-1, 0), (1, -1), (1, 2**64)]:
+            with self.assertRaises(ValueError, msg=(capacity, max_age)):
+                Client(capacity, max_age)
         with self.assertRaises(TypeError):
-            Client(1.5, 1000)
-
-    def test_the_least_log_serves(self):
-        redis = self.connect(log_max=1000)
-        for number in range(3000):
-            redis.execute("SET", "k", number)
-            self.assertEqual(redis.get("k"), b"%d" % number)
+            Client(1.5)
 
     def test_a_missing_library_is_one_error(self):
-        code = "import zeovalki\ntry: zeovalki.Client(1, 1000)\nexcept OSError: print('missing')"
+        code = "import zeovalki\ntry: zeovalki.Client(1)\nexcept OSError: print('missing')"
         done = subprocess.run(
             [sys.executable, "-c", code], capture_output=True, text=True, check=False,
-            env={**os.environ, "PYTHONPATH": sys.path[0], "ZEOVALKI_LIBRARY": "/no/such.so"})
+            env={**os.environ, "PYTHONPATH": str(stand_in.BINDING),
+                 "ZEOVALKI_LIBRARY": "/no/such.so"})
         self.assertEqual((done.stdout, done.stderr), ("missing\n", ""))
 
 
@@ -379,6 +267,162 @@ class Callers(Test):
         self.assertEqual(redis.get("k"), b"1")
         stats = redis.stats()
         self.assertEqual((stats["hits"], stats["connections"]), (1, 1))
+
+
+class Settings(Test):
+    def test_user_name_and_database_come_before_the_set_up(self):
+        self.server.password = b"secret"
+        redis = self.connect(username="ada", password="secret", db=2, client_name="page")
+        self.assertIsNone(redis.get("k"))
+        self.assertEqual(self.server.heard[:4], [
+            [b"AUTH", b"ada", b"secret"], [b"CLIENT", b"SETNAME", b"page"], [b"SELECT", b"2"],
+            [b"HELLO", b"3"]])
+
+    def test_they_are_sent_on_each_connection(self):
+        self.server.password = b"secret"
+        redis = self.connect(password="secret", timeout=1)
+        redis.ping()
+        self.server.connections[0].cut()
+        with self.assertRaises(ConnectionError):
+            redis.ping()
+        redis.ping()
+        self.assertEqual([it[0] for it in self.server.heard].count(b"AUTH"), 2)
+
+    def test_a_wrong_password_is_told(self):
+        self.server.password = b"secret"
+        with self.assertRaisesRegex(ReplyError, "AUTH: WRONGPASS"):
+            self.connect(password="guess")
+        with self.assertRaises(ValueError):
+            self.connect(username="ada")
+
+    def test_a_unix_socket(self):
+        with tempfile.TemporaryDirectory() as folder:
+            path = f"{folder}/redis.sock"
+            server = stand_in.StandIn(path)
+            self.addCleanup(server.listener.close)
+            with CachedRedis(unix_socket_path=path, capacity=5) as redis:
+                redis.set("k", "1")
+                self.assertEqual([redis.get("k"), redis.get("k")], [b"1", b"1"])
+                self.assertEqual(redis.stats()["hits"], 1)
+
+    def test_nobody_who_listens_is_told(self):
+        with socket.create_server(("127.0.0.1", 0)) as listener:
+            port = listener.getsockname()[1]
+        with self.assertRaises(ConnectionRefusedError):
+            CachedRedis("127.0.0.1", port, connect_timeout=1)
+
+    def test_each_tracking_is_asked_for(self):
+        rows = [({}, []), ({"tracking": "optin"}, [b"OPTIN"]),
+                ({"tracking": "optout", "noloop": True}, [b"OPTOUT", b"NOLOOP"]),
+                ({"tracking": "bcast"}, [b"BCAST"]),
+                ({"tracking": "bcast", "prefixes": ["user:", b"\r\n"]},
+                 [b"BCAST", b"PREFIX", b"user:", b"PREFIX", b"\r\n"])]
+        for settings, words in rows:
+            redis = self.connect(**settings)
+            redis.ping()
+            redis.close()
+            tracking = [it for it in self.server.heard if it[:2] == [b"CLIENT", b"TRACKING"]]
+            self.assertEqual(tracking[-1], [b"CLIENT", b"TRACKING", b"ON", *words])
+
+    def test_a_tracking_that_is_none_is_refused(self):
+        for settings in ({"tracking": "all"}, {"prefixes": ["a"]},
+                         {"tracking": "optin", "prefixes": ["a"]}):
+            with self.assertRaises(ValueError, msg=settings):
+                self.connect(**settings)
+
+
+class Methods(Test):
+    def test_answers_are_those_of_redis_py(self):
+        redis = self.connect()
+        self.server.values = {b"h": {b"f": b"1"}}
+        rows = [(redis.set("k", "abc"), True), (redis.set("k", "x", nx=True), None),
+                (redis.get("k"), b"abc"), (redis.strlen("k"), 3), (redis.exists("k"), 1),
+                (redis.exists("k", "none", "h"), 2), (redis.hget("h", "f"), b"1"),
+                (redis.hget("h", "g"), None), (redis.hgetall("h"), {b"f": b"1"}),
+                (redis.hgetall("none"), {}), (redis.expire("k", 10), True),
+                (redis.expire("none", 10), False), (redis.ping(), True),
+                (redis.delete("k", "none"), 1), (redis.get("k"), None)]
+        for answer, wanted in rows:
+            self.assertEqual(answer, wanted)
+        with self.assertRaisesRegex(ReplyError, "WRONGTYPE"):
+            redis.get("h")
+
+    def test_options_of_set(self):
+        redis = self.connect()
+        redis.set("k", 1, ex=5, keepttl=True, xx=True)
+        redis.set("k", 1, px=7)
+        self.assertEqual(self.server.heard[-2:], [
+            [b"SET", b"k", b"1", b"EX", b"5", b"KEEPTTL", b"XX"],
+            [b"SET", b"k", b"1", b"PX", b"7"]])
+
+    def test_mget_asks_the_cache_of_each_key(self):
+        redis = self.connect()
+        self.server.values = {b"a": b"1", b"b": b"2", b"h": {b"f": b"1"}}
+        self.assertEqual(redis.mget("a", "none"), [b"1", None])
+        self.assertEqual(redis.mget(["a", "b", "h", "none"]), [b"1", b"2", None, None])
+        self.assertEqual(self.server.names(), [b"GET"] * 4)
+        stats = redis.stats()
+        self.assertEqual((stats["hits"], stats["misses"]), (2, 4))
+
+    def test_a_pipeline_goes_out_at_once(self):
+        redis = self.connect()
+        self.server.values = {b"a": b"1", b"h": {b"f": b"1"}}
+        redis.get("a")
+        pipeline = redis.pipeline()
+        answers = (pipeline.get("a").set("b", "2").get("b").mget("a", "b").hget("h", "f")
+                   .execute("ECHO", "x").execute())
+        self.assertEqual(answers, [b"1", True, b"2", [b"1", b"2"], b"1", b"echo"])
+        self.assertEqual(redis.get("b"), b"2")
+        self.assertEqual(len(pipeline), 0)
+        self.assertEqual(pipeline.execute(), [])
+
+    def test_a_pipeline_keeps_errors_in_their_places(self):
+        redis = self.connect()
+        self.server.values = {b"a": b"1", b"h": {b"f": b"1"}}
+
+        def filled():
+            pipeline = redis.pipeline().get("a").get("h").set("b", 2)
+            return pipeline.execute("SELECT", 1).get("b")
+
+        answers = filled().execute(raise_on_error=False)
+        self.assertEqual([answers[0], *answers[2:3], answers[4]], [b"1", True, b"2"])
+        self.assertIsInstance(answers[1], ReplyError)
+        self.assertIsInstance(answers[3], ValueError)
+        with self.assertRaisesRegex(ReplyError, "WRONGTYPE"):
+            filled().execute()
+        self.assertEqual(redis.get("a"), b"1")
+        self.assertEqual(redis.stats()["connections"], 1)
+
+    def test_no_transactions(self):
+        with self.assertRaises(ValueError):
+            self.connect().pipeline(transaction=True)
+
+
+class Wheel(unittest.TestCase):
+    def test_it_is_installed_and_finds_its_library(self):
+        with tempfile.TemporaryDirectory() as folder:
+            built = subprocess.run([TOP / "tools" / "build_wheel", folder], check=True,
+                                   capture_output=True, text=True)
+            wheel = Path(built.stdout.strip())
+            names = zipfile.ZipFile(wheel).namelist()
+            self.assertIn("zeovalki/libzeovalki.so", names)
+            if not self.is_installed(wheel, folder):
+                self.skipTest("no pip is installed")
+            code = "import zeovalki; zeovalki.Client(1); print(zeovalki.__file__)"
+            environment = {**os.environ, "PYTHONPATH": f"{folder}/site"}
+            environment.pop("ZEOVALKI_LIBRARY", None)
+            done = subprocess.run([sys.executable, "-c", code], check=True, env=environment,
+                                  cwd=folder, capture_output=True, text=True)
+            self.assertEqual(done.stdout.strip(), f"{folder}/site/zeovalki/__init__.py")
+
+    def is_installed(self, wheel, folder):
+        words = [sys.executable, "-m", "pip", "--disable-pip-version-check", "install", "--no-index",
+                 "--quiet", "--target", f"{folder}/site", wheel]
+        done = subprocess.run(words, check=False, capture_output=True, text=True)
+        if "No module named pip" in done.stderr:
+            return False
+        self.assertEqual(done.returncode, 0, done.stderr)
+        return True
 
 
 if __name__ == "__main__":

@@ -38,7 +38,8 @@ static void measure(size_t size)
     static char value[MOST + 64];
     static uint8_t answer[MOST + 64], copy[MOST + 64];
     zeovalki_client *client = NULL;
-    if (zeovalki_new(100, 2 * CALLS, 0, &client) != ZEOVALKI_DONE) {
+    zeovalki_options options = {.capacity = 100};
+    if (zeovalki_new(&options, &client) != ZEOVALKI_DONE) {
         exit(1);
     }
     feed(client, "%0\r\n+OK\r\n");
@@ -74,7 +75,8 @@ static double send_cost(const char *name)
     static uint8_t out[1 << 20];
     static char replies[8 * SENDS];
     zeovalki_client *client = NULL;
-    if (zeovalki_new(100000, 10000000, 0, &client) != ZEOVALKI_DONE) {
+    zeovalki_options options = {.capacity = 100000};
+    if (zeovalki_new(&options, &client) != ZEOVALKI_DONE) {
         exit(1);
     }
     feed(client, "%0\r\n+OK\r\n");

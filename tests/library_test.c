@@ -121,13 +121,15 @@ static struct told call(zeovalki_client *client, const char *verb, const char *a
         told.status = zeovalki_end(client);
     } else if (strcmp(verb, "ended") == 0) {
         told.status = zeovalki_ended(client);
+    } else if (strcmp(verb, "count") == 0) {
+        told.status = zeovalki_count(client, strtoull(argument, NULL, 10));
     } else if (strcmp(verb, "close") == 0) {
         told.status = zeovalki_close(client);
     } else {
         stop("no such call");
     }
     free(bytes.at);
-    if (strcmp(verb, "ended") != 0) {
+    if (strcmp(verb, "ended") != 0 && strcmp(verb, "count") != 0) {
         told.number = zeovalki_number(client);
         told.answer = answer_of(client);
     } else {
@@ -172,14 +174,74 @@ static int play(FILE *dialogue, zeovalki_client *client, size_t piece)
     return failed;
 }
 
-/* The bound of a dialogue, which its first line says by `bound`; 0 where it does not. */
-static uint64_t read_bound(FILE *dialogue)
+/* A client by the first lines of a dialogue, each an option and its value. */
+static zeovalki_client *make(FILE *dialogue)
 {
-    unsigned long long bound = 0;
-    if (fscanf(dialogue, "bound %llu\n", &bound) != 1) {
-        rewind(dialogue);
+    zeovalki_options options = {.capacity = 100};
+    struct bytes prefixes = {block(0), 0};
+    char name[16], value[1024];
+    long at = 0;
+    while (fscanf(dialogue, "%15s %1023s\n", name, value) == 2) {
+        if (strcmp(name, "max_age") == 0) {
+            options.max_age = strtoull(value, NULL, 10);
+        } else if (strcmp(name, "tracking") == 0) {
+            options.tracking = strtoull(value, NULL, 10);
+        } else if (strcmp(name, "noloop") == 0) {
+            options.noloop = strtoull(value, NULL, 10);
+        } else if (strcmp(name, "prefixes") == 0) {
+            free(prefixes.at);
+            prefixes = read_bytes(value);
+        } else {
+            break;
+        }
+        at = ftell(dialogue);
     }
-    return bound;
+    fseek(dialogue, at, SEEK_SET);
+    zeovalki_client *client = NULL;
+    if (zeovalki_new_with_prefixes(&options, prefixes.at, prefixes.size, &client)
+        != ZEOVALKI_DONE) {
+        stop("no client");
+    }
+    free(prefixes.at);
+    return client;
+}
+
+/* Options of which one is wrong, and what is told of it. */
+static void refuse_options(void)
+{
+    static const struct {
+        zeovalki_status told;
+        const char *prefixes;
+        zeovalki_options options;
+    } rows[] = {
+        {ZEOVALKI_BAD_LIMIT, "", {.capacity = 0}},
+        {ZEOVALKI_BAD_LIMIT, "", {.capacity = 1000001}},
+        {ZEOVALKI_BAD_TRACKING, "", {.capacity = 1, .tracking = 4}},
+        {ZEOVALKI_BAD_TRACKING, "", {.capacity = 1, .tracking = 4, .noloop = 2}},
+        {ZEOVALKI_BAD_NOLOOP, "", {.capacity = 1, .noloop = 2}},
+        {ZEOVALKI_BAD_RESERVED, "", {.capacity = 1, .reserved = {1, 0, 0, 0}}},
+        {ZEOVALKI_BAD_RESERVED, "", {.capacity = 1, .reserved = {0, 0, 0, 1}}},
+        {ZEOVALKI_BAD_PREFIXES, "a\r\n", {.capacity = 1}},
+        {ZEOVALKI_BAD_PREFIXES, "a\r\n", {.capacity = 1, .tracking = 1}},
+        {ZEOVALKI_BAD_PREFIXES, "a", {.capacity = 1, .tracking = 3}},
+        {ZEOVALKI_BAD_PREFIXES, "*1\r\n$2\r\na\r\n", {.capacity = 1, .tracking = 3}},
+        {ZEOVALKI_BAD_PREFIXES, "\r\n", {.capacity = 1, .tracking = 3}},
+    };
+    for (size_t at = 0; at < sizeof rows / sizeof rows[0]; at++) {
+        const uint8_t *prefixes = (const uint8_t *)rows[at].prefixes;
+        zeovalki_client *client = NULL;
+        if (zeovalki_new_with_prefixes(&rows[at].options, prefixes, strlen(rows[at].prefixes),
+                                       &client)
+                != rows[at].told
+            || client != NULL) {
+            fprintf(stderr, "options in row %zu are taken\n", at);
+            exit(2);
+        }
+    }
+    zeovalki_client *client = NULL;
+    if (zeovalki_new(&rows[0].options, &client) != ZEOVALKI_BAD_LIMIT || client != NULL) {
+        stop("no capacity is taken");
+    }
 }
 
 int main(int count, char **words)
@@ -191,16 +253,16 @@ int main(int count, char **words)
     if (dialogue == NULL) {
         stop("no such dialogue");
     }
-    zeovalki_client *client = NULL;
-    if (zeovalki_new(0, 1000, 0, &client) != ZEOVALKI_BAD_LIMIT
-        || zeovalki_new(1000001, 1000, 0, &client) != ZEOVALKI_BAD_LIMIT
-        || zeovalki_new(1, 999, 0, &client) != ZEOVALKI_BAD_LIMIT || client != NULL) {
-        stop("a limit that is wrong is taken");
-    }
-    if (zeovalki_new(100, 1000, read_bound(dialogue), &client) != ZEOVALKI_DONE) {
-        stop("no client");
-    }
+    refuse_options();
+    zeovalki_client *client = make(dialogue);
     int failed = play(dialogue, client, (size_t)strtoull(words[2], NULL, 10));
+    zeovalki_counts counts;
+    zeovalki_stats(client, &counts);
+    if (counts.hits != zeovalki_count(client, ZEOVALKI_HITS)
+        || counts.bytes != zeovalki_count(client, ZEOVALKI_BYTES_HELD)
+        || zeovalki_count(client, 5) != 0) {
+        stop("counts that differ");
+    }
     zeovalki_free(client);
     fclose(dialogue);
     return failed;

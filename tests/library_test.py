@@ -33,6 +33,8 @@ def call(client, verb, argument, piece):
     """The status, the number and the answer that a call tells."""
     if verb == "ended":
         return int(client.ended()), 0, b""
+    if verb == "count":
+        return client.count(int(argument)), 0, b""
     if verb == "feed":
         status = feed(client, read_bytes(argument), piece)
     elif verb in ("ask", "send"):
@@ -45,13 +47,35 @@ def call(client, verb, argument, piece):
     return status, client.number(), client.answer()
 
 
+TRACKINGS = ["default", "optin", "optout", "bcast"]
+
+
+def words_of(line):
+    """The words of prefixes, which stand as a command or as a line."""
+    parts = line.split(b"\r\n")
+    return parts[2::2] if line.startswith(b"*") else parts[0].split()
+
+
+def make(lines):
+    """A client by the first lines of a dialogue, each an option and its value; and how many."""
+    options = {"max_age": 0, "tracking": 0, "noloop": 0, "prefixes": "-"}
+    count = 0
+    while lines[count].split()[0] in options:
+        name, value = lines[count].split()
+        options[name] = value
+        count += 1
+    prefixes = words_of(read_bytes(options["prefixes"])) if options["prefixes"] != "-" else []
+    return count, Client(100, int(options["max_age"]), prefixes=prefixes,
+                         tracking=TRACKINGS[int(options["tracking"])],
+                         noloop=options["noloop"] == "1")
+
+
 def main(path, piece):
     lines = Path(path).read_text().splitlines()
-    bound = int(lines[0].split()[1]) if lines[0].startswith("bound ") else 0
-    client = Client(100, 1000, bound)
+    count, client = make(lines)
     failed = 0
-    for number, line in enumerate(lines, 1):
-        if line.startswith(("#", "bound ")):
+    for number, line in enumerate(lines[count:], count + 1):
+        if line.startswith("#"):
             continue
         verb, argument, *wanted, answer = line.split()
         told = call(client, verb, argument, piece)

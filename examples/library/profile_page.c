@@ -101,7 +101,8 @@ int main(int count, char **words)
     int link = connected(port), writer = connected(port), hits = 0;
     uint8_t reply[64], profile[4096];
     zeovalki_client *client = NULL;
-    if (zeovalki_new(1000, 1000000, 0, &client) != ZEOVALKI_DONE) {
+    zeovalki_options options = {.capacity = 1000};
+    if (zeovalki_new(&options, &client) != ZEOVALKI_DONE) {
         stop("no memory");
     }
     for (int shown = 0; shown < 1000; shown++) {

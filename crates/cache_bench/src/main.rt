@@ -83,7 +83,7 @@ const WELCOME: &[u8] = b"%0\r\n+OK\r\n";
 fn measure_plain<R: Runtime>(rt: &R, alloc: Global, times: u64) -> Result<(), Fault>
     requires { 0 < times }
 {
-    let mut client = LibraryClient::new(alloc, 1000, 4000000000)?;
+    let mut client = LibraryClient::new(alloc, mode(), 1000)?;
     measure_sends(rt, alloc, &mut client, times)
 }
 
@@ -104,7 +104,7 @@ fn measure_sends<R: Runtime>(
 fn measure_guarded<R: Runtime>(rt: &R, alloc: Global, times: u64) -> Result<(), Fault>
     requires { 0 < times }
 {
-    let mut client = GuardedClient::new(alloc, 1000, 4000000000, None)?;
+    let mut client = GuardedClient::new(alloc, mode(), 1000, None)?;
     measure_guarded_sends(rt, alloc, &mut client, times)
 }
 

@@ -1,12 +1,20 @@
 -- What making a client tells.
-use Rattle.std.specs.Prelude.{◌≡◌, ◌⊎◌, ℕ, Option, None, Some}
+use Rattle.std.specs.Prelude.{◌≡◌, ◌⊎◌, ℕ, List, Option, Some, Result, Ok, Err}
+use Rattle.client_library.specs.declared.options.ClientOptions.{ClientOptions}
+use Rattle.client_library.specs.declared.options.OptionFault.{OptionFault}
 use Rattle.client_library.specs.Handles.{Handle}
 use Rattle.client_library.specs.Foreign.{made}
+use Rattle.client_library.specs.Options.{option_status}
 
--- the client is made and stands at the pointer, or a limit is none, or memory ran out; where none
+abbrev pub IsMade :
+    Result (Option Handle) OptionFault → Option (Option Handle) → ℕ → Option (Option Handle)
+    → Type 0
+IsMade (Ok h) old status new = (status ≡ 0) × (new ≡ Some h)
+IsMade (Err f) old status new = (status ≡ option_status f) × (new ≡ old)
+
+-- the client is made and stands at the pointer, or an option is none, or memory ran out; where none
 -- is made the pointer is as before
-abbrev pub Makes : ℕ → ℕ → ℕ → Option (Option Handle) → ℕ → Option (Option Handle) → Type 0
-Makes capacity log_max max_age old status new =
-    ((status ≡ 0) × (h : Option Handle) × (made capacity log_max max_age ≡ Some h) × (new ≡ Some h))
-    ⊎ ((status ≡ 15) × (made capacity log_max max_age ≡ None) × (new ≡ old))
-    ⊎ ((status ≡ 12) × (new ≡ old))
+abbrev pub Makes :
+    ClientOptions → List ℕ → Option (Option Handle) → ℕ → Option (Option Handle) → Type 0
+Makes options prefixes old status new =
+    IsMade (made options prefixes) old status new ⊎ ((status ≡ 12) × (new ≡ old))

@@ -2,44 +2,64 @@
 //! plain words; `docs/library.md` says what a program has to keep.
 #![tactic(auto)]
 
-ghost use Rattle.client_library.specs.Foreign.{Closes, Copies, OnOpen, TellsEnded, TellsNumber};
+ghost use Rattle.client_library.specs.Foreign.{Closes, Copies, OnOpen, TellsCount, TellsEnded};
+ghost use Rattle.client_library.specs.Foreign.{TellsNumber};
 ghost use Rattle.client_library.specs.Handles.{Asks, Ends, Feeds, Handle, Polls, Sends, TakesOut};
 ghost use Rattle.client_library.specs.Handles.{TellsTime};
 ghost use Rattle.client_library.specs.contracts.foreign.ForeignClient.{the_row};
 ghost use Rattle.client_c.specs.Made.{Makes};
-ghost use Rattle.std.specs.Prelude.{◌≡◌, Option, Some};
+ghost use Rattle.std.specs.Prelude.{◌≡◌, [], Option, Some};
 ghost use base.Fraction.{full_share};
 ghost use denote.RawPtr.{lies_at};
 ghost use types.Logic.{sem};
 
 mod pointer;
 
-use client_library::{ForeignClient, status};
+use client_library::{ClientOptions, ForeignClient, option_status, status};
 use pointer::ClientPointer;
 use std::alloc::Global;
+
+fn make(alloc: Global, options: &ClientOptions, prefixes: &[u8], out: &mut ClientPointer) -> u64
+    ensures { Makes options.now prefixes.now out.old.client result out.new.client }
+{
+    let Ok(made) = ForeignClient::new(alloc, options, prefixes) else {
+        return status::NO_MEMORY;
+    };
+    match made {
+        Ok(client) => {
+            let Ok(client) = Box::new(alloc, client) else {
+                return status::NO_MEMORY;
+            };
+            *out = ClientPointer::of(client);
+            status::DONE
+        }
+        Err(fault) => option_status(fault),
+    }
+}
 
 /// Makes a client, whose pointer is written where one is made.
 #[unsafe(no_mangle)]
 pub extern "C" fn zeovalki_new(
     alloc: Global,
-    capacity: u64,
-    log_max: u64,
-    max_age: u64,
+    options: &ClientOptions,
     out: &mut ClientPointer,
 ) -> u64
-    ensures { Makes capacity log_max max_age out.old.client result out.new.client }
+    ensures { Makes options.now [] out.old.client result out.new.client }
 {
-    let Ok(made) = ForeignClient::new(alloc, capacity, log_max, max_age) else {
-        return status::NO_MEMORY;
-    };
-    let Some(client) = made else {
-        return status::BAD_LIMIT;
-    };
-    let Ok(client) = Box::new(alloc, client) else {
-        return status::NO_MEMORY;
-    };
-    *out = ClientPointer::of(client);
-    status::DONE
+    make(alloc, options, b"", out)
+}
+
+/// As `zeovalki_new`, with prefixes for BCAST, written as the words of a command.
+#[unsafe(no_mangle)]
+pub extern "C" fn zeovalki_new_with_prefixes(
+    alloc: Global,
+    options: &ClientOptions,
+    prefixes: &[u8],
+    out: &mut ClientPointer,
+) -> u64
+    ensures { Makes options.now prefixes.now out.old.client result out.new.client }
+{
+    make(alloc, options, prefixes, out)
 }
 
 /// What the server sent next, cut anywhere.
@@ -160,6 +180,18 @@ pub unsafe extern "C" fn zeovalki_number(at: *mut u8) -> u64
 {
     let client = &mut *(at as *mut ForeignClient);
     client.number()
+}
+
+/// The count of that name.
+#[unsafe(no_mangle)]
+pub unsafe extern "C" fn zeovalki_count(at: *mut u8, name: u64) -> u64
+    ghost old: { Option Handle }
+    requires* { sem 𝓛 (lies_at the_row full_share at old) }
+    ensures* { ∃ₛ λ new. sem 𝓛 (lies_at the_row full_share at new)
+        ∗ ⌜ TellsCount name old result new ⌝ }
+{
+    let client = &mut *(at as *mut ForeignClient);
+    client.count(name)
 }
 
 /// The size of the last answer, which is copied where there is room for it.

@@ -1,12 +1,13 @@
 -- A client that refuses commands by their first word, lets go of what an unknown command may write,
 -- and gives no hit that is older than its bound.
-use Rattle.std.specs.Prelude.{◌≡◌, ◌-◌, ◌⊎◌, ◌∷◌, ℕ, List, [], Bool, true, false, Option, Some}
-use Rattle.std.specs.Prelude.{None, nat_le, max, not, Result}
+use Rattle.std.specs.Prelude.{◌≡◌, ◌+◌, ◌-◌, ◌⊎◌, ◌∷◌, ℕ, List, [], Bool, true, false, Option}
+use Rattle.std.specs.Prelude.{Some, None, nat_le, max, min, not, Result}
 use Rattle.resp_value.specs.declared.octets.NoMemory.{NoMemory}
 use Rattle.std.specs.BTreeMap.{insert_entry, is_at}
 use Rattle.std.specs.Map.{lookup}
 use Rattle.std.specs.Ordering.{nat_cmp}
 use Rattle.command_words.specs.Queries.{key_of}
+use Rattle.shared_cache.specs.declared.log.ClientMode.{ClientMode}
 use Rattle.shared_cache.specs.declared.log.ClientCall.{ClientCall}
 use Rattle.shared_cache.specs.declared.log.ClientCall.TheVariants as call
 use Rattle.shared_cache.specs.declared.log.Wire.TheVariants.{Main}
@@ -20,20 +21,27 @@ use Rattle.client_library.specs.Library.{FeedGives, Library, Plays, fresh}
 use Rattle.client_library.specs.Refused.{refuses}
 use Rattle.client_library.specs.Unknown.{AreGone, invalidation, is_unknown}
 
--- the client; its bound, if it has one; the latest time that its program told; and when the fetch
--- of a number was sent, by those times
+-- how many asks were answered from the cache, and how many sent a fetch
+pub record Counts : Type 0 where
+  pub hits : ℕ
+  pub misses : ℕ
+
+-- the client; its bound, if it has one; the latest time that its program told; when the fetch of a
+-- number was sent, by those times; and what was counted
 pub record Guarded : Type 0 where
   pub client : Library
   pub max_age : Option ℕ
   pub clock : ℕ
   pub times : List (ℕ × ℕ)
+  pub counts : Counts
 
-abbrev pub begun_with : ℕ → ℕ → Option ℕ → Guarded
-begun_with capacity log_max max_age = record {
-  client = fresh capacity log_max;
+abbrev pub begun_with : ClientMode → ℕ → Option ℕ → Guarded
+begun_with mode capacity max_age = record {
+  client = fresh mode capacity;
   max_age = max_age;
   clock = 0;
   times = [];
+  counts = record { hits = 0; misses = 0 };
 }
 
 abbrev pub with_client : Guarded → Library → Guarded
@@ -42,6 +50,7 @@ with_client g c = record {
   max_age = g.max_age;
   clock = g.clock;
   times = g.times;
+  counts = g.counts;
 }
 
 -- a time before the latest counts as the latest
@@ -51,6 +60,7 @@ at_time now g = record {
   max_age = g.max_age;
   clock = max g.clock now;
   times = g.times;
+  counts = g.counts;
 }
 
 -- nothing but the client has changed
@@ -133,11 +143,26 @@ with_time n g = record {
   max_age = g.max_age;
   clock = g.clock;
   times = insert_entry nat_cmp g.times n g.clock;
+  counts = g.counts;
 }
+
+abbrev pub behind_first : List (ℕ × ℕ) → List (ℕ × ℕ)
+behind_first [] = []
+behind_first (t ∷ ts) = ts
+
+-- nothing has changed, or the time of the oldest fetch is gone: what it brought counts as too old
+abbrev pub IsShortened : Guarded → Guarded → Type 0
+IsShortened old new = (new ≡ old) ⊎ (new ≡ record {
+  client = old.client;
+  max_age = old.max_age;
+  clock = old.clock;
+  times = behind_first old.times;
+  counts = old.counts;
+})
 
 -- the time of a fetch that is sent is kept, or memory ran out for it: what it brings is then no hit
 abbrev pub KeepsTime : ClientReply → Guarded → Guarded → Type 0
-KeepsTime (Sent n) old new = (new ≡ with_time n old) ⊎ (new ≡ old)
+KeepsTime (Sent n) old new = IsShortened (with_time n old) new ⊎ (new ≡ old)
 KeepsTime reply old new = new ≡ old
 
 abbrev pub Fetches : Words → Guarded → ClientReply → Guarded → Type 0
@@ -160,8 +185,30 @@ abbrev pub AsksBound : Option ℕ → Words → Guarded → ClientReply → Guar
 AsksBound None q old reply new = Turns (call.Ask q) old reply new
 AsksBound (Some age) q old reply new = AsksWithin age q old reply new
 
+-- one more, up to the greatest number
+abbrev pub one_more : ℕ → ℕ
+one_more n = min (n + 1) 18446744073709551615
+
+-- an answer from the cache is a hit, and a fetch that is sent a miss
+abbrev pub counted : ClientReply → Counts → Counts
+counted (Hit v n) c = record { hits = one_more c.hits; misses = c.misses }
+counted (Sent n) c = record { hits = c.hits; misses = one_more c.misses }
+counted reply c = c
+
+abbrev pub counting : ClientReply → Guarded → Guarded
+counting reply g = record {
+  client = g.client;
+  max_age = g.max_age;
+  clock = g.clock;
+  times = g.times;
+  counts = counted reply g.counts;
+}
+
+-- what is answered is counted, so what is too old is a miss
 abbrev pub AsksGuarded : Words → Guarded → ClientReply → Guarded → Type 0
-AsksGuarded q old reply new = AsksBound old.max_age q old reply new
+AsksGuarded q old reply new =
+    (between : Guarded) × AsksBound old.max_age q old reply between
+    × (new ≡ counting reply between)
 
 abbrev pub IsYoungFor : Option ℕ → Guarded → ℕ → Type 0
 IsYoungFor None g n = Unit {0}

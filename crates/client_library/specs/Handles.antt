@@ -16,8 +16,8 @@ use Rattle.shared_cache.specs.declared.log.ClientRefusal.{ClientRefusal}
 use Rattle.shared_cache.specs.declared.log.ClientRefusal.TheVariants as refusal
 use Rattle.shared_cache.specs.Held.{Words}
 use Rattle.client_library.specs.Library.{CutShort, Library, ended, feed}
-use Rattle.client_library.specs.Guarded.{AsksGuarded, Guarded, SendsGuarded, Turns, at_time}
-use Rattle.client_library.specs.Guarded.{with_client}
+use Rattle.client_library.specs.Guarded.{AsksGuarded, Counts, Guarded, SendsGuarded, Turns}
+use Rattle.client_library.specs.Guarded.{at_time, with_client}
 use Rattle.client_library.specs.Requests.{first_request}
 
 -- the client, and the bytes and the number that its last call told
@@ -87,6 +87,10 @@ pub record Called (Does : Guarded → ClientReply → Guarded → Type 0) (old :
 -- nothing was done
 abbrev pub Passed : ℕ → Handle → ℕ → Handle → Type 0
 Passed wanted old status new = (status ≡ wanted) × (new ≡ silent old.client)
+
+-- the count of hits has the name 0, that of misses 1; of the others nothing is said
+abbrev pub IsCount : ℕ → Counts → ℕ → Type 0
+IsCount name c told = (name ≡ 0 → told ≡ c.hits) × (name ≡ 1 → told ≡ c.misses)
 
 -- ---- the calls
 

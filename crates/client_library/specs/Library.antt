@@ -4,7 +4,6 @@ use Rattle.std.specs.Prelude.{◌≡◌, ◌∷◌, ℕ, List, [], Bool, true, f
 use Rattle.std.specs.Prelude.{Result, Ok, Err, IsOk, IsErr, if◌then◌else◌}
 use Rattle.resp_value.specs.declared.octets.NoMemory.{NoMemory}
 use Rattle.resp_value.specs.declared.value.Value.{Value}
-use Rattle.resp_value.specs.declared.value.Proto.TheVariants.{Three}
 use Rattle.resp_value.specs.Tree.{Tree}
 use Rattle.resp_value.specs.ValueTree.{value_of}
 use Rattle.resp_stream.specs.declared.fault.StreamFault.{StreamFault}
@@ -12,8 +11,6 @@ use Rattle.resp_stream.specs.declared.fault.StreamFault.TheVariants as stream
 use Rattle.resp_stream.specs.Parse.{Batch, parse_values}
 use Rattle.resp_stream.specs.Stream.{Stream, begun, fed}
 use Rattle.shared_cache.specs.declared.log.Wire.TheVariants.{Main}
-use Rattle.shared_cache.specs.declared.log.Shape.TheVariants.{Single}
-use Rattle.shared_cache.specs.declared.log.Caching.TheVariants.{Default}
 use Rattle.shared_cache.specs.declared.log.ClientMode.{ClientMode}
 use Rattle.shared_cache.specs.declared.log.LogEntry.{LogEntry}
 use Rattle.shared_cache.specs.declared.log.ClientCall.{ClientCall}
@@ -35,13 +32,11 @@ pub record Library : Type 0 where
   pub past : List LogEntry
   pub reader : Stream
 
--- one link, the third protocol, tracking in default mode
-abbrev pub mode : ClientMode
-mode = record { shape = Single; proto = Three; caching = Default; noloop = false }
-
-abbrev pub fresh : ℕ → ℕ → Library
-fresh capacity log_max = record {
-  setup = record { mode = mode; capacity = capacity; log_max = log_max };
+-- it has done nothing, not even its set-up
+-- and its log ends at the greatest number alone
+abbrev pub fresh : ClientMode → ℕ → Library
+fresh mode capacity = record {
+  setup = record { mode = mode; capacity = capacity; log_max = 18446744073709551615 };
   past = [];
   reader = begun;
 }

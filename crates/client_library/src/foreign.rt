@@ -1,11 +1,13 @@
 //! A client for a program of another language: a handle, until it is closed.
 ghost use Rattle.std.specs.Prelude.{◌≡◌, IfOk};
-ghost use Rattle.client_library.specs.Foreign.{Closes, Copies, OnOpen, TellsEnded, TellsNumber};
+ghost use Rattle.client_library.specs.Foreign.{Closes, Copies, OnOpen, TellsCount, TellsEnded};
+ghost use Rattle.client_library.specs.Foreign.{TellsNumber};
 ghost use Rattle.client_library.specs.Foreign.{bound, made};
 ghost use Rattle.client_library.specs.Handles.{Asks, Ends, Feeds, Polls, Sends, TakesOut};
 ghost use Rattle.client_library.specs.Handles.{TellsTime};
 
 use super::handle::{Handle, status};
+use super::options::{ClientOptions, OptionFault, fault_of, mode_of, read_prefixes};
 use resp_value::NoMemory;
 use std::alloc::Global;
 use std::marker::Model;
@@ -37,23 +39,28 @@ fn bound(max_age: u64) -> Option<u64>
 }
 
 impl ForeignClient {
-    /// As `Handle::new`, where a `max_age` of 0 is no bound; nothing where a limit is none: the log
-    /// has room for the set-up and for some hundreds of commands.
+    /// As `Handle::new` by these options, and by prefixes, written as the words of a command.
     pub fn new(
         alloc: Global,
-        capacity: u64,
-        log_max: u64,
-        max_age: u64,
-    ) -> Result<Option<ForeignClient>, NoMemory>
-        ensures { IfOk result (λ c. c ≡ made capacity log_max max_age) }
+        options: &ClientOptions,
+        prefixes: &[u8],
+    ) -> Result<Result<ForeignClient, OptionFault>, NoMemory>
+        ensures { IfOk result (λ m. m ≡ made options.now prefixes.now) }
     {
-        if capacity == 0 || capacity > 1000000 || log_max < 1000 {
-            return Ok(None);
+        if let Some(fault) = fault_of(options, prefixes.len() > 0) {
+            return Ok(Err(fault));
         }
-        let handle = Handle::new(alloc, capacity, log_max, bound(max_age))?;
-        Ok(Some(ForeignClient {
-            handle: Some(handle),
-        }))
+        match read_prefixes(alloc, prefixes)? {
+            Some(words) => {
+                let mode = mode_of(options, words);
+                let age = bound(options.max_age);
+                let handle = Handle::new(alloc, mode, options.capacity, age)?;
+                Ok(Ok(ForeignClient {
+                    handle: Some(handle),
+                }))
+            }
+            None => Ok(Err(OptionFault::Prefixes)),
+        }
     }
 
     pub fn feed(&mut self, bytes: &[u8]) -> u64
@@ -143,6 +150,16 @@ impl ForeignClient {
     {
         match &self.handle {
             Some(handle) => handle.number(),
+            None => 0,
+        }
+    }
+
+    /// The count of that name, as `Handle::count`; 0 of a client that was closed.
+    pub fn count(&mut self, name: u64) -> u64
+        ensures { TellsCount name self.old result self.new }
+    {
+        match &self.handle {
+            Some(handle) => handle.count(name),
             None => 0,
         }
     }

@@ -4,9 +4,11 @@ ghost use Rattle.command_words.specs.Queries.{key_of};
 ghost use Rattle.shared_cache.specs.declared.log.ClientCall.TheVariants as call;
 ghost use Rattle.shared_cache.specs.declared.log.ClientReply.TheVariants.{Noted, Refused};
 ghost use Rattle.shared_cache.specs.declared.log.Wire.TheVariants.{Main};
-ghost use Rattle.client_library.specs.Guarded.{AsksGuarded, AsksWithin, DoesNotLetGo, FeedsTo};
+ghost use Rattle.shared_cache.specs.ClientFields.{IsOneLink};
+ghost use Rattle.client_library.specs.Guarded.{AsksBound, AsksGuarded, AsksWithin, DoesNotLetGo};
+ghost use Rattle.client_library.specs.Guarded.{FeedsTo, counting};
 ghost use Rattle.client_library.specs.Guarded.{Fetches, HitIsYoung, IsMiss, IsNotedOrRefused};
-ghost use Rattle.client_library.specs.Guarded.{IsYoungHit, KeepsTime};
+ghost use Rattle.client_library.specs.Guarded.{IsShortened, IsYoungHit, KeepsTime};
 ghost use Rattle.client_library.specs.Guarded.{LeavesNone, LetsGoThen, SendsGuarded, Turns};
 ghost use Rattle.client_library.specs.Guarded.{at_time, begun_with, is_stale, is_young};
 ghost use Rattle.client_library.specs.Guarded.{with_client};
@@ -14,11 +16,12 @@ ghost use Rattle.client_library.specs.Library.{HitIsHeld, ended, has_ended};
 ghost use Rattle.client_library.specs.Unknown.{AreGone, invalidation};
 
 use super::library::LibraryClient;
+use super::measure::HeldSize;
 use super::refused::refuses;
 use super::unknown::{invalidation, is_unknown};
 use command_words::Query;
 use resp_value::{NoMemory, Octets, Words};
-use shared_cache::{ClientRefusal, ClientReply};
+use shared_cache::{ClientMode, ClientRefusal, ClientReply};
 use std::alloc::Global;
 use std::collections::BTreeMap;
 use std::marker::Model;
@@ -55,6 +58,10 @@ pub struct GuardedClient {
     clock: u64,
     // when the fetch of a number was sent; of a client with a bound
     times: BTreeMap<u64, u64>,
+    // there are at most so many
+    times_max: u64,
+    hits: u64,
+    misses: u64,
 }
 
 impl Model for GuardedClient {
@@ -71,6 +78,7 @@ impl Model for GuardedClient {
       max_age = g.max_age;
       clock = g.clock;
       times = g.times.entries;
+      counts = record { hits = g.hits; misses = g.misses };
     } };
 }
 
@@ -78,20 +86,23 @@ impl GuardedClient {
     /// As `LibraryClient::new`, with a bound on the age of hits or none.
     pub fn new(
         alloc: Global,
+        mode: ClientMode,
         capacity: u64,
-        log_max: u64,
         max_age: Option<u64>,
     ) -> Result<GuardedClient, NoMemory>
+        requires mode { IsOneLink mode }
         requires capacity { (0 < capacity) × (capacity ≤ 1000000) }
-        requires log_max { 0 < log_max }
-        ensures { IfOk result (λ g. g ≡ begun_with capacity log_max max_age) }
+        ensures { IfOk result (λ g. g ≡ begun_with mode capacity max_age) }
     {
         Ok(GuardedClient {
             alloc,
-            client: LibraryClient::new(alloc, capacity, log_max)?,
+            client: LibraryClient::new(alloc, mode, capacity)?,
             max_age,
             clock: 0,
             times: BTreeMap::new(alloc),
+            times_max: capacity.saturating_mul(2).saturating_add(4096),
+            hits: 0,
+            misses: 0,
         })
     }
 
@@ -181,12 +192,25 @@ impl GuardedClient {
         }
     }
 
+    // Where there are many more times than keys the oldest goes: what it brought counts as too old.
+    fn drop_oldest(&mut self)
+        ensures { IsShortened self.old self.new }
+    {
+        if self.times.len() as u64 <= self.times_max {
+            return;
+        }
+        match self.times.pop_first() {
+            Some(_) => {}
+            None => {}
+        }
+    }
+
     fn keep_time(&mut self, told: &ClientReply)
         ensures { KeepsTime told.now self.old self.new }
     {
         match told {
             ClientReply::Sent { number } => match self.times.insert(*number, self.clock) {
-                Ok(_) => {}
+                Ok(_) => self.drop_oldest(),
                 Err(_) => {}
             },
             _ => {}
@@ -240,10 +264,8 @@ impl GuardedClient {
         told
     }
 
-    /// A query: a hit with its value, or the number of its fetch. What is held for longer than the
-    /// bound goes.
-    pub fn ask(&mut self, query: Query) -> ClientReply
-        ensures asks { AsksGuarded query self.old result self.new }
+    fn answer(&mut self, query: Query) -> ClientReply
+        ensures asks { AsksBound self.old.max_age query self.old result self.new }
         ensures hit { HitIsHeld self.old.client query result }
         ensures young { HitIsYoung self.old result }
     {
@@ -251,6 +273,52 @@ impl GuardedClient {
             None => self.look_up(query),
             Some(age) => self.ask_within(age, query),
         }
+    }
+
+    fn count(&mut self, told: &ClientReply)
+        ensures { self.new ≡ counting told.now self.old }
+    {
+        match told {
+            ClientReply::Hit { .. } => self.hits = self.hits.saturating_add(1),
+            ClientReply::Sent { .. } => self.misses = self.misses.saturating_add(1),
+            _ => {}
+        }
+    }
+
+    /// A query: a hit with its value, or the number of its fetch. What is held for longer than the
+    /// bound goes. A hit and a fetch are counted by what is answered.
+    pub fn ask(&mut self, query: Query) -> ClientReply
+        ensures asks { AsksGuarded query self.old result self.new }
+        ensures hit { HitIsHeld self.old.client query result }
+        ensures young { HitIsYoung self.old result }
+    {
+        let told = self.answer(query);
+        self.count(&told);
+        told
+    }
+
+    /// How many asks were answered from the cache.
+    pub fn hits(&self) -> u64
+        ensures { result ≡ self.now.counts.hits }
+    {
+        self.hits
+    }
+
+    /// How many asks sent a fetch.
+    pub fn misses(&self) -> u64
+        ensures { result ≡ self.now.counts.misses }
+    {
+        self.misses
+    }
+
+    /// As `LibraryClient::invalidations`.
+    pub fn invalidations(&self) -> u64 {
+        self.client.invalidations()
+    }
+
+    /// As `LibraryClient::measure`.
+    pub fn measure(&self) -> Result<HeldSize, NoMemory> {
+        self.client.measure()
     }
 
     /// As `LibraryClient::poll`.

@@ -3,18 +3,21 @@
 ghost use Rattle.std.specs.Prelude.{◌≡◌, ◌++◌, ◌<◌, ◌≤◌, [], IfOk, OnErr, OnOk, length};
 ghost use Rattle.command_words.specs.Queries.{query_of};
 ghost use Rattle.client_library.specs.Guarded.{begun_with};
-ghost use Rattle.client_library.specs.Handles.{Asks, AsksQuery, AsksWords, Ends, Feeds, Polls};
+ghost use Rattle.client_library.specs.Handles.{Asks, AsksQuery, AsksWords, Ends, Feeds, IsCount};
+ghost use Rattle.client_library.specs.Handles.{Polls};
 ghost use Rattle.client_library.specs.Handles.{Sends, SendsWords, TakesOut, Tells, TellsTime};
 ghost use Rattle.client_library.specs.Handles.{answer_of, copied, number_of, refusal_status};
 ghost use Rattle.client_library.specs.Handles.{silent, status_of};
 ghost use Rattle.client_library.specs.Library.{has_ended};
 ghost use Rattle.client_library.specs.Requests.{first_request};
+ghost use Rattle.shared_cache.specs.ClientFields.{IsOneLink};
 
 use super::guarded::GuardedClient;
+use super::measure::HeldSize;
 use super::request::read_words;
 use command_words::Query;
 use resp_value::{NoMemory, Proto, Words, put_value};
-use shared_cache::{ClientRefusal, ClientReply};
+use shared_cache::{ClientMode, ClientRefusal, ClientReply};
 use std::alloc::Global;
 use std::marker::Model;
 
@@ -52,6 +55,28 @@ pub mod status {
     pub const NO_QUERY: u64 = 14;
     /// A limit is none that is served.
     pub const BAD_LIMIT: u64 = 15;
+    /// There is no tracking of that number.
+    pub const BAD_TRACKING: u64 = 16;
+    /// NOLOOP is neither 0 nor 1.
+    pub const BAD_NOLOOP: u64 = 17;
+    /// There are prefixes without BCAST, or they are no words.
+    pub const BAD_PREFIXES: u64 = 18;
+    /// What is for options to come is not 0.
+    pub const BAD_RESERVED: u64 = 19;
+}
+
+/// What `Handle::count` counts.
+pub mod count {
+    /// Asks that were answered from the cache.
+    pub const HITS: u64 = 0;
+    /// Asks that sent a fetch.
+    pub const MISSES: u64 = 1;
+    /// Invalidations that the server sent.
+    pub const INVALIDATIONS: u64 = 2;
+    /// Keys that are held. To count those takes memory, and time by what is held.
+    pub const KEYS: u64 = 3;
+    /// Bytes of queries and values that are held, counted likewise.
+    pub const BYTES: u64 = 4;
 }
 
 /// A client, and the bytes and the number that its last call told.
@@ -107,6 +132,16 @@ fn status_of(reply: &ClientReply) -> u64
     }
 }
 
+fn held_count(name: u64, size: HeldSize) -> u64 {
+    if name == count::KEYS {
+        return size.keys;
+    }
+    if name == count::BYTES {
+        return size.bytes;
+    }
+    0
+}
+
 fn number_of(reply: &ClientReply) -> u64
     ensures { result ≡ number_of reply.now }
 {
@@ -137,17 +172,17 @@ impl Handle {
     /// As `GuardedClient::new`.
     pub fn new(
         alloc: Global,
+        mode: ClientMode,
         capacity: u64,
-        log_max: u64,
         max_age: Option<u64>,
     ) -> Result<Handle, NoMemory>
+        requires mode { IsOneLink mode }
         requires capacity { (0 < capacity) × (capacity ≤ 1000000) }
-        requires log_max { 0 < log_max }
-        ensures { IfOk result (λ h. h ≡ silent (begun_with capacity log_max max_age)) }
+        ensures { IfOk result (λ h. h ≡ silent (begun_with mode capacity max_age)) }
     {
         Ok(Handle {
             alloc,
-            client: GuardedClient::new(alloc, capacity, log_max, max_age)?,
+            client: GuardedClient::new(alloc, mode, capacity, max_age)?,
             answer: Vec::new(alloc),
             number: 0,
         })
@@ -184,6 +219,25 @@ impl Handle {
             out[..size].copy_from_slice(self.answer.as_slice());
         }
         size as u64
+    }
+
+    /// The count of that name; 0 of any other, and the greatest number where memory ran out.
+    pub fn count(&self, name: u64) -> u64
+        ensures { IsCount name self.now.client.counts result }
+    {
+        if name == count::HITS {
+            return self.client.hits();
+        }
+        if name == count::MISSES {
+            return self.client.misses();
+        }
+        if name == count::INVALIDATIONS {
+            return self.client.invalidations();
+        }
+        match self.client.measure() {
+            Ok(size) => held_count(name, size),
+            Err(_) => u64::MAX,
+        }
     }
 
     // Nothing is told.

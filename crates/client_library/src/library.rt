@@ -1,20 +1,21 @@
 //! The client as its program holds it.
-ghost use Rattle.std.specs.Prelude.{◌≡◌, ◌<◌, ◌≤◌, IfOk, length, reverse};
+ghost use Rattle.std.specs.Prelude.{◌≡◌, ◌<◌, ◌≤◌, IfOk, length};
 ghost use Rattle.resp_stream.specs.Parse.{parse_values};
 ghost use Rattle.shared_cache.specs.declared.log.ClientCall.TheVariants as call;
 ghost use Rattle.shared_cache.specs.declared.log.Wire.TheVariants.{Main};
+ghost use Rattle.shared_cache.specs.ClientFields.{IsOneLink};
 ghost use Rattle.shared_cache.specs.Laws.{IsCall, LegalLog};
 ghost use Rattle.shared_cache.specs.Out.{untaken};
 ghost use Rattle.client_library.specs.Library.{FeedGives, HitIsHeld, IsToldBy, Plays, ReadGives};
 ghost use Rattle.client_library.specs.Library.{ended, fresh, has_ended};
 
+use super::measure::{HeldSize, measure};
 use super::turns::{close, get};
 use command_words::Query;
+use past_entries::Past;
 use resp_stream::{StreamFault, ValueReader};
-use resp_value::{NoMemory, Proto, Value, Words};
-use shared_cache::{
-    Caching, ClientCall, ClientMode, ClientReply, ClientState, LogEntry, Shape, Wire,
-};
+use resp_value::{NoMemory, Value, Words};
+use shared_cache::{ClientCall, ClientMode, ClientReply, ClientState, LogEntry, Wire};
 use std::alloc::Global;
 use std::marker::Model;
 
@@ -28,12 +29,25 @@ fn told_by(fault: StreamFault) -> Result<(), NoMemory>
     }
 }
 
+fn is_invalidation(value: &Value) -> bool {
+    match value {
+        Value::Push(values) => match values.as_slice() {
+            [Value::Blob(name), ..] => name.as_slice() == b"invalidate".as_slice(),
+            _ => false,
+        },
+        _ => false,
+    }
+}
+
 /// A cached client over one link that its program carries: the client's state, and the reader of
 /// what came over the link.
 #[derive(Drop)]
 pub struct LibraryClient {
+    alloc: Global,
     state: ClientState,
     reader: ValueReader,
+    // how many invalidations the server sent
+    invalidations: u64,
 }
 
 impl Model for LibraryClient {
@@ -56,31 +70,34 @@ impl Model for LibraryClient {
 }
 
 impl LibraryClient {
-    /// A client that holds at most so many keys, and whose log has at most so many entries. Its
-    /// set-up is the first that comes out for the server.
-    pub fn new(alloc: Global, capacity: u64, log_max: u64) -> Result<LibraryClient, NoMemory>
+    /// A client of that mode, which holds at most so many keys. Its log may have as many entries as
+    /// a number counts. Its set-up is the first that comes out for the server.
+    pub fn new(alloc: Global, mode: ClientMode, capacity: u64) -> Result<LibraryClient, NoMemory>
+        requires mode { IsOneLink mode }
         requires capacity { (0 < capacity) × (capacity ≤ 1000000) }
-        requires log_max { 0 < log_max }
-        ensures { IfOk result (λ c. c ≡ fresh capacity log_max) }
+        ensures { IfOk result (λ c. c ≡ fresh mode capacity) }
     {
-        let mode = ClientMode {
-            shape: Shape::Single,
-            proto: Proto::Three,
-            caching: Caching::Default,
-            noloop: false,
-        };
         Ok(LibraryClient {
-            state: ClientState::new(alloc, mode, capacity, log_max)?,
+            alloc,
+            state: ClientState::new(alloc, mode, capacity, u64::MAX)?,
             reader: ValueReader::new(alloc),
+            invalidations: 0,
         })
     }
 
-    /// The entries so far, the oldest first: those of a legal log.
-    pub fn log(&self) -> &[LogEntry]
-        ensures entries { result.now ≡ reverse self.now.past }
+    /// The entries so far, which are in no memory: those of a legal log.
+    pub fn log(&self) -> &Past<LogEntry>
+        ensures entries { result.now ≡ self.now.past }
         ensures legal { LegalLog self.now.setup self.now.past }
     {
         self.state.log()
+    }
+
+    /// How many entries the log has.
+    pub fn entries(&self) -> u64
+        ensures { result ≡ length self.now.past }
+    {
+        self.state.entries()
     }
 
     /// Whether the link has ended. It does where its program says so, by a fault of the bytes, by
@@ -89,6 +106,16 @@ impl LibraryClient {
         ensures { result ≡ has_ended self.now }
     {
         self.state.has_ended()
+    }
+
+    /// How many invalidations the server sent: messages, each of a key or of several, or of all.
+    pub fn invalidations(&self) -> u64 {
+        self.invalidations
+    }
+
+    /// How much is held. It goes over all of that.
+    pub fn measure(&self) -> Result<HeldSize, NoMemory> {
+        measure(self.alloc, self.state.held_in_order()?.as_slice())
     }
 
     /// How many bytes are to be sent to the server.
@@ -173,10 +200,14 @@ impl LibraryClient {
     {
         'values: loop {
             match self.reader.next_value() {
-                Ok(Some(value)) => match get(&mut self.state, value) {
-                    Ok(()) => {}
-                    Err(_) => return Err(NoMemory),
-                },
+                Ok(Some(value)) => {
+                    let more = if is_invalidation(&value) { 1 } else { 0 };
+                    self.invalidations = self.invalidations.saturating_add(more);
+                    match get(&mut self.state, value) {
+                        Ok(()) => {}
+                        Err(_) => return Err(NoMemory),
+                    }
+                }
                 Ok(None) => return Ok(()),
                 Err(fault) => {
                     close(&mut self.state);

@@ -1,8 +1,8 @@
 -- A caller's turns, after turns that added nothing.
 use Rattle.std.proofs.Common.{◌≡◌, ℕ, List, [], ◌∷◌, true, false, ap, subst, arith}
-use Rattle.seat_turns.specs.Own.{past_of, Grows}
-use Rattle.seat_turns.proofs.Growing.{grows_then, grows_past}
-use Rattle.seat_turns.proofs.Turning.{begins_trans}
+use Rattle.turn_lock.specs.Own.{past_of, Grows}
+use Rattle.turn_lock.proofs.Growing.{grows_then, grows_past}
+use Rattle.turn_lock.proofs.Turning.{begins_trans}
 use Rattle.resp_value.specs.declared.value.Value.{Value}
 use Rattle.shared_cache.specs.declared.log.LogEntry.{LogEntry}
 use Rattle.shared_cache.specs.declared.log.LogEntry.TheVariants as entry

@@ -1,7 +1,7 @@
 -- What a client's step says by its reply, and what stays true of a log whatever is added to it.
 use Rattle.std.proofs.Common.{◌≡◌, ◌≤◌, ◌+◌, ℕ, List, [], ◌∷◌, ◌++◌, length, take, drop, Bool, true}
 use Rattle.std.proofs.Common.{false, cond, refl, ap, subst, ◌∙◌, arith, Some, None, length-append}
-use Rattle.std.proofs.Common.{map}
+use Rattle.std.proofs.Common.{◌-◌, map, min, sym}
 use Rattle.std.specs.Prelude.{Option, ◌||◌}
 use Rattle.std.specs.List.{flat_map}
 use Rattle.std.proofs.lemmas.Bool.Decides.{nat_tests}
@@ -12,7 +12,7 @@ use Rattle.resp_value.specs.Lists.{IsPrefix as IsFront}
 use Rattle.resp_value.specs.Spelling.{request_spelling}
 use Rattle.resp_value.specs.declared.value.Value.{Value}
 use Rattle.shared_cache.specs.declared.log.Wire.{Wire}
-use Rattle.shared_cache.specs.declared.log.Wire.TheVariants.{Main}
+use Rattle.shared_cache.specs.declared.log.Wire.TheVariants.{Main, Side}
 use Rattle.shared_cache.specs.declared.log.LogEntry.{LogEntry}
 use Rattle.shared_cache.specs.declared.log.LogEntry.TheVariants as entry
 use Rattle.shared_cache.specs.declared.log.ClientCall.TheVariants.{Ask, Send, Poll, TakeOut, Got}
@@ -22,75 +22,77 @@ use Rattle.shared_cache.specs.declared.log.ClientReply.TheVariants.{Noted, Refus
 use Rattle.shared_cache.specs.declared.log.ClientRefusal.{ClientRefusal}
 use Rattle.shared_cache.specs.declared.log.ClientRefusal.TheVariants.{Down, LogFull}
 use Rattle.shared_cache.specs.declared.entry.CacheEntry.{CacheEntry}
-use Rattle.shared_cache.specs.Log.{handshake, is_ended, reply}
+use Rattle.shared_cache.specs.declared.log.Shape.{Shape}
+use Rattle.shared_cache.specs.declared.log.Shape.TheVariants.{Single, Pair}
+use Rattle.shared_cache.specs.Log.{ends_wire, handshake, is_ended, is_ready, is_wire, reply}
 use Rattle.shared_cache.specs.Held.{Setup, SentCommand, held, held_for, sent}
 use Rattle.shared_cache.specs.Out.{out, taken, untaken}
 use Rattle.shared_cache.specs.Steps.{ClientTurn, client_step, refusing, is_log_full}
 use Rattle.shared_cache.specs.Steps.{read_number, command_number, getting}
 use Rattle.shared_cache.proofs.CommandLists.{after, main_grows}
-use Rattle.shared_cache.proofs.Handshakes.{handshake_grows}
+use Rattle.shared_cache.proofs.Handshakes.{handshake_grows, side_same}
 
-module _ (log new : List LogEntry) where
+module _ (w : Wire) (log new : List LogEntry) where
   -- ---- Got, where the log is as before
 
-  got_down_in : (v : Value) (over : Bool) (o : Option ClientRefusal) (full : Bool) (w : Wire)
+  got_down_in : (v : Value) (over : Bool) (o : Option ClientRefusal) (full : Bool) (u : Wire)
       → new ≡ log
-      → cond over (refusing (Down Main) log) (getting o Main v full log)
-      ≡ record { reply = Refused (Down w); past = new } → over ≡ true
-  got_down_in v true o full w same is = refl
-  got_down_in v false (Some r) full w same is =
-      absurd (let e : entry.Bad Main v ∷ log ≡ log = ap (λ (t : ClientTurn). t.past) is ∙ same in
+      → cond over (refusing (Down w) log) (getting o w v full log)
+      ≡ record { reply = Refused (Down u); past = new } → over ≡ true
+  got_down_in v true o full u same is = refl
+  got_down_in v false (Some r) full u same is =
+      absurd (let e : entry.Bad w v ∷ log ≡ log = ap (λ (t : ClientTurn). t.past) is ∙ same in
       omega (arith, ap length e))
-  got_down_in v false None true w same is = grind arith
-  got_down_in v false None false w same is = grind arith
+  got_down_in v false None true u same is = grind arith
+  got_down_in v false None false u same is = grind arith
 
   got_full_in : (v : Value) (over : Bool) (o : Option ClientRefusal) (full : Bool) (k : ℕ)
       → new ≡ log
-      → cond over (refusing (Down Main) log) (getting o Main v full log)
+      → cond over (refusing (Down w) log) (getting o w v full log)
       ≡ record { reply = Refused (LogFull k); past = new } → full ≡ true
   got_full_in v true o full k same is = grind arith
   got_full_in v false (Some r) full k same is =
-      absurd (let e : entry.Bad Main v ∷ log ≡ log = ap (λ (t : ClientTurn). t.past) is ∙ same in
+      absurd (let e : entry.Bad w v ∷ log ≡ log = ap (λ (t : ClientTurn). t.past) is ∙ same in
       omega (arith, ap length e))
   got_full_in v false None true k same is = refl
   got_full_in v false None false k same is = grind arith
 
 module _ (s : Setup) (log : List LogEntry) where
-  pub quiet_none : (n : ℕ) (new : List LogEntry)
-      → client_step s log (TakeOut Main n) ≡ record { reply = Quiet; past = new }
-      → untaken s Main log ≡ []
+  pub quiet_none : (w : Wire) (n : ℕ) (new : List LogEntry)
+      → client_step s log (TakeOut w n) ≡ record { reply = Quiet; past = new }
+      → untaken s w log ≡ []
   unfolding client_step
-  quiet_none n new is = grind (arith, nat_tests)
+  quiet_none w n new is = grind (arith, nat_tests)
 
-  pub bytes_given : (n : ℕ) (given : List ℕ) (new : List LogEntry)
-      → client_step s log (TakeOut Main n) ≡ record { reply = Bytes given; past = new }
-      → given ≡ take n (untaken s Main log)
+  pub bytes_given : (w : Wire) (n : ℕ) (given : List ℕ) (new : List LogEntry)
+      → client_step s log (TakeOut w n) ≡ record { reply = Bytes given; past = new }
+      → given ≡ take n (untaken s w log)
   unfolding client_step
-  bytes_given n given new is = grind (arith, nat_tests)
+  bytes_given w n given new is = grind (arith, nat_tests)
 
-  pub take_down : (n : ℕ) (w : Wire) (new : List LogEntry)
-      → client_step s log (TakeOut Main n) ≡ record { reply = Refused (Down w); past = new }
-      → is_ended s.mode Main log ≡ true
+  pub take_down : (w : Wire) (n : ℕ) (u : Wire) (new : List LogEntry)
+      → client_step s log (TakeOut w n) ≡ record { reply = Refused (Down u); past = new }
+      → is_ended s.mode w log ≡ true
   unfolding client_step
-  take_down n w new is = grind (arith, nat_tests)
+  take_down w n u new is = grind (arith, nat_tests)
 
-  pub take_full : (n k : ℕ) (new : List LogEntry)
-      → client_step s log (TakeOut Main n) ≡ record { reply = Refused (LogFull k); past = new }
+  pub take_full : (w : Wire) (n k : ℕ) (new : List LogEntry)
+      → client_step s log (TakeOut w n) ≡ record { reply = Refused (LogFull k); past = new }
       → is_log_full s log ≡ true
   unfolding client_step
-  take_full n k new is = grind (arith, nat_tests)
+  take_full w n k new is = grind (arith, nat_tests)
 
-  pub got_down : (v : Value) (w : Wire)
-      → client_step s log (Got Main v) ≡ record { reply = Refused (Down w); past = log }
-      → is_ended s.mode Main log ≡ true
+  pub got_down : (w : Wire) (v : Value) (u : Wire)
+      → client_step s log (Got w v) ≡ record { reply = Refused (Down u); past = log }
+      → is_ended s.mode w log ≡ true
   unfolding client_step
-  got_down v w is = grind (arith, got_down_in)
+  got_down w v u is = grind (arith, got_down_in)
 
-  pub got_full : (v : Value) (k : ℕ)
-      → client_step s log (Got Main v) ≡ record { reply = Refused (LogFull k); past = log }
+  pub got_full : (w : Wire) (v : Value) (k : ℕ)
+      → client_step s log (Got w v) ≡ record { reply = Refused (LogFull k); past = log }
       → is_log_full s log ≡ true
   unfolding client_step
-  got_full v k is = grind (arith, got_full_in)
+  got_full w v k is = grind (arith, got_full_in)
 
   pub ask_hit : (q : List (List ℕ)) (v : Value) (k : ℕ) (new : List LogEntry)
       → client_step s log (Ask q) ≡ record { reply = Hit v k; past = new }
@@ -116,22 +118,22 @@ module _ (s : Setup) (log : List LogEntry) where
   unfolding client_step
   poll_answer n v new is = grind (arith, nat_tests)
 
-  end_in : (over : Bool) → cond over log (entry.End Main ∷ log) ≡ log → over ≡ true
-  end_in true is = refl
-  end_in false is = absurd (omega (arith, ap length is))
+  end_in : (w : Wire) (over : Bool) → cond over log (entry.End w ∷ log) ≡ log → over ≡ true
+  end_in w true is = refl
+  end_in w false is = absurd (omega (arith, ap length is))
 
-  pub end_over : client_step s log (End Main) ≡ record { reply = Noted; past = log }
-      → is_ended s.mode Main log ≡ true
+  pub end_over : (w : Wire) → client_step s log (End w) ≡ record { reply = Noted; past = log }
+      → is_ended s.mode w log ≡ true
   unfolding client_step
-  end_over is = end_in (is_ended s.mode Main log) (ap (λ (t : ClientTurn). t.past) is)
+  end_over w is = end_in w (is_ended s.mode w log) (ap (λ (t : ClientTurn). t.past) is)
 
   nothing_left : (n : ℕ) (xs : List ℕ) → drop n xs ≡ [] → length xs ≤ n
   nothing_left n xs h = omega (arith, ap length h, length-drop n xs)
 
   -- nothing is queued, so all was taken
-  pub all_taken : untaken s Main log ≡ [] → length (out s Main log) ≤ taken s Main log
+  pub all_taken : (w : Wire) → untaken s w log ≡ [] → length (out s w log) ≤ taken s w log
   unfolding untaken
-  all_taken none = nothing_left (taken s Main log) (out s Main log) none
+  all_taken w none = nothing_left (taken s w log) (out s w log) none
 
 -- ---- what any entries leave true
 
@@ -169,31 +171,39 @@ both_longer f xs more ys others p q =
     )
 
 module _ (s : Setup) where
-  out_one : (e : LogEntry) (log : List LogEntry)
-      → length (out s Main log) ≤ length (out s Main (e ∷ log))
+  out_one : (w : Wire) (e : LogEntry) (log : List LogEntry)
+      → length (out s w log) ≤ length (out s w (e ∷ log))
   unfolding out
-  out_one e log =
+  out_one Side e log =
+      subst (λ h. length (flat_map request_spelling (handshake s.mode Side log ++ []))
+      ≤ length (flat_map request_spelling (h ++ []))) (sym (side_same s.mode log (e ∷ log)))
+      (omega arith)
+  out_one Main e log =
       both_longer request_spelling (handshake s.mode Main log) (handshake s.mode Main (e ∷ log))
       (map (λ (c : SentCommand). c.words) (sent s log))
       (map (λ (c : SentCommand). c.words) (sent s (e ∷ log))) (handshake_grows s.mode e log)
       (after [] (sent s log) (sent s (e ∷ log)) (main_grows s e log))
 
-  pub out_begins : (a b : List LogEntry) → IsPrefix a b
-      → length (out s Main a) ≤ length (out s Main b)
-  out_begins a b more =
-      begins_lift (λ past. length (out s Main a) ≤ length (out s Main past))
-      (λ e past h. let o = out_one e past in omega (arith, h, o)) a b more (omega arith)
+  pub out_begins : (w : Wire) (a b : List LogEntry) → IsPrefix a b
+      → length (out s w a) ≤ length (out s w b)
+  out_begins w a b more =
+      begins_lift (λ past. length (out s w a) ≤ length (out s w past))
+      (λ e past h. let o = out_one w e past in omega (arith, h, o)) a b more (omega arith)
 
   taken_if : (b : Bool) (n more : ℕ) → n ≤ cond b (n + more) n
   taken_if b n more = grind (arith, nat_tests)
 
-  taken_one : (e : LogEntry) (log : List LogEntry) → taken s Main log ≤ taken s Main (e ∷ log)
-  taken_one e log = grind (arith, taken_if, nat_tests)
+  taken_one : (w : Wire) (e : LogEntry) (log : List LogEntry)
+      → taken s w log ≤ taken s w (e ∷ log)
+  taken_one w (entry.TakeOut u n) log =
+      taken_if (is_wire u w) (taken s w log) (min n (length (out s w log) - taken s w log))
+  taken_one w e log = omega arith
 
-  pub taken_begins : (a b : List LogEntry) → IsPrefix a b → taken s Main a ≤ taken s Main b
-  taken_begins a b more =
-      begins_lift (λ past. taken s Main a ≤ taken s Main past)
-      (λ e past h. let o = taken_one e past in omega (arith, h, o)) a b more (omega arith)
+  pub taken_begins : (w : Wire) (a b : List LogEntry) → IsPrefix a b
+      → taken s w a ≤ taken s w b
+  taken_begins w a b more =
+      begins_lift (λ past. taken s w a ≤ taken s w past)
+      (λ e past h. let o = taken_one w e past in omega (arith, h, o)) a b more (omega arith)
 
   pub full_begins : (a b : List LogEntry) → IsPrefix a b → is_log_full s a ≡ true
       → is_log_full s b ≡ true
@@ -203,14 +213,32 @@ module _ (s : Setup) where
           → is_log_full s (e ∷ past) ≡ true
       one e past h = grind (arith, nat_tests, h)
 
-  ended_if : (b : Bool) (log : List LogEntry) → is_ended s.mode Main log ≡ true
-      → (b || is_ended s.mode Main log) ≡ true
-  ended_if b log h = grind (arith, nat_tests)
+  -- an end of a link ends that link
+  own_wire : (shape : Shape) (w : Wire) (ready : Bool) → ends_wire shape w w ready ≡ true
+  own_wire Single Main ready = refl
+  own_wire Single Side ready = refl
+  own_wire Pair Main ready = refl
+  own_wire Pair Side ready = refl
 
-  ended_one : (e : LogEntry) (log : List LogEntry) → is_ended s.mode Main log ≡ true
-      → is_ended s.mode Main (e ∷ log) ≡ true
-  ended_one e log h = grind (arith, ended_if, nat_tests)
+  pub end_own : (w : Wire) (log : List LogEntry) → is_ended s.mode w (entry.End w ∷ log) ≡ true
+  end_own w log =
+      ap (λ b. b || is_ended s.mode w log) (own_wire s.mode.shape w (is_ready s.mode log))
 
-  pub ended_begins : (a b : List LogEntry) → IsPrefix a b → is_ended s.mode Main a ≡ true
-      → is_ended s.mode Main b ≡ true
-  ended_begins a b more = begins_lift (λ past. is_ended s.mode Main past ≡ true) ended_one a b more
+  pub bad_own : (w : Wire) (v : Value) (log : List LogEntry)
+      → is_ended s.mode w (entry.Bad w v ∷ log) ≡ true
+  bad_own w v log =
+      ap (λ b. b || is_ended s.mode w log) (own_wire s.mode.shape w (is_ready s.mode log))
+
+  ended_if : (b over : Bool) → over ≡ true → (b || over) ≡ true
+  ended_if b over h = grind (arith, nat_tests)
+
+  ended_one : (w : Wire) (e : LogEntry) (log : List LogEntry) → is_ended s.mode w log ≡ true
+      → is_ended s.mode w (e ∷ log) ≡ true
+  ended_one w (entry.End u) log h = ended_if _ _ h
+  ended_one w (entry.Bad u v) log h = ended_if _ _ h
+  ended_one w e log h = h
+
+  pub ended_begins : (w : Wire) (a b : List LogEntry) → IsPrefix a b
+      → is_ended s.mode w a ≡ true → is_ended s.mode w b ≡ true
+  ended_begins w a b more =
+      begins_lift (λ past. is_ended s.mode w past ≡ true) (ended_one w) a b more

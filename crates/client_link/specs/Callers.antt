@@ -1,6 +1,6 @@
 -- What a caller's query or command comes to.
 use Rattle.std.specs.Prelude.{◌≡◌, ℕ, List, [], Bool, Some, None, true, false}
-use Rattle.seat_turns.specs.Own.{Grows}
+use Rattle.turn_lock.specs.Own.{Grows}
 use Rattle.resp_value.specs.declared.value.Value.{Value}
 use Rattle.shared_cache.specs.declared.log.LogEntry.{LogEntry}
 use Rattle.shared_cache.specs.declared.log.LogEntry.TheVariants as entry

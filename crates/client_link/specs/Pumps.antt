@@ -4,8 +4,8 @@ use Rattle.std.specs.Prelude.{Bool, Option, Some, None, Result, Ok, Err}
 use Rattle.std.specs.List.{All}
 use Rattle.std.specs.Io.KnownBytes.{Appends, Consumes}
 use Rattle.turn_lock.specs.declared.rule.TheConstants.{LAST_TICKET}
-use Rattle.seat_turns.specs.Own.{past_of, Grows}
-use Rattle.seat_turns.specs.Turns.{in_order}
+use Rattle.turn_lock.specs.Own.{past_of, Grows}
+use Rattle.turn_lock.specs.Turns.{in_order}
 use Rattle.resp_value.specs.Lists.{IsPrefix}
 use Rattle.resp_value.specs.Tree.{Tree}
 use Rattle.resp_value.specs.ValueTree.{tree_of}
@@ -15,7 +15,7 @@ use Rattle.resp_stream.specs.Stream.{Stream, begun, fed}
 use Rattle.resp_stream.specs.declared.fault.StreamFault.{StreamFault}
 use Rattle.edge_links.specs.declared.counts.Counts.{Counts}
 use Rattle.edge_links.specs.Counts.{Counted, FaultCounted}
-use Rattle.shared_cache.specs.declared.log.Wire.TheVariants.{Main}
+use Rattle.shared_cache.specs.declared.log.Wire.{Wire}
 use Rattle.shared_cache.specs.declared.log.LogEntry.{LogEntry}
 use Rattle.shared_cache.specs.declared.log.LogEntry.TheVariants as entry
 use Rattle.shared_cache.specs.declared.log.ClientCall.TheVariants as call
@@ -40,15 +40,15 @@ end_by r = ended.Refused r
 
 -- ---- the turns of a pump, the newest first
 
--- a TakeOut or a Got
-abbrev pub IsWork : Turn → Type 0
-IsWork (entry.TakeOut w n, past) = w ≡ Main
-IsWork (entry.Got w v, past) = w ≡ Main
-IsWork (entry.Ask q, past) = ⊥
-IsWork (entry.Send ws, past) = ⊥
-IsWork (entry.Poll n, past) = ⊥
-IsWork (entry.End w, past) = ⊥
-IsWork (entry.Bad w v, past) = ⊥
+-- a TakeOut or a Got of that link
+abbrev pub IsWork : Wire → Turn → Type 0
+IsWork u (entry.TakeOut w n, past) = w ≡ u
+IsWork u (entry.Got w v, past) = w ≡ u
+IsWork u (entry.Ask q, past) = ⊥
+IsWork u (entry.Send ws, past) = ⊥
+IsWork u (entry.Poll n, past) = ⊥
+IsWork u (entry.End w, past) = ⊥
+IsWork u (entry.Bad w v, past) = ⊥
 
 -- the value that the turn got, one that ended the link included
 abbrev pub got_in : Turn → List Tree
@@ -79,22 +79,23 @@ gave s turns = in_order (gave_in s) turns
 
 -- where the turn is a Got: of all that was queued up to and with it, no byte is behind those that
 -- were taken
-abbrev pub IsTaken : Setup → ℕ → Turn → Type 0
-IsTaken s count (entry.Got w v, past) = length (out s Main (entry.Got w v ∷ past)) ≤ count
-IsTaken s count (entry.TakeOut w n, past) = ⊤
-IsTaken s count (entry.Bad w v, past) = ⊤
-IsTaken s count (entry.Ask q, past) = ⊤
-IsTaken s count (entry.Send ws, past) = ⊤
-IsTaken s count (entry.Poll n, past) = ⊤
-IsTaken s count (entry.End w, past) = ⊤
+abbrev pub IsTaken : Setup → Wire → ℕ → Turn → Type 0
+IsTaken s u count (entry.Got w v, past) = length (out s u (entry.Got w v ∷ past)) ≤ count
+IsTaken s u count (entry.TakeOut w n, past) = ⊤
+IsTaken s u count (entry.Bad w v, past) = ⊤
+IsTaken s u count (entry.Ask q, past) = ⊤
+IsTaken s u count (entry.Send ws, past) = ⊤
+IsTaken s u count (entry.Poll n, past) = ⊤
+IsTaken s u count (entry.End w, past) = ⊤
 
 -- the value of the last turn ended the link, and was refused so
-pub record EndsByValue (s : Setup) (r : ClientRefusal) (turns : List Turn) : Type 0 where
-  pub value : Value
-  pub past : List LogEntry
-  pub turns_are : turns ≡ (entry.Bad Main value, past) ∷ []
-  pub step : client_step s past (call.Got Main value)
-      ≡ record { reply = reply.Refused r; past = entry.Bad Main value ∷ past }
+pub record EndsByValue (s : Setup) (w : Wire) (r : ClientRefusal) (turns : List Turn) : Type 0
+  where
+    pub value : Value
+    pub past : List LogEntry
+    pub turns_are : turns ≡ (entry.Bad w value, past) ∷ []
+    pub step : client_step s past (call.Got w value)
+        ≡ record { reply = reply.Refused r; past = entry.Bad w value ∷ past }
 
 -- ---- counts
 
@@ -115,82 +116,83 @@ RoundCounts (Err e) old new = EndCounts e old new
 
 -- ---- why a pump's turn is not taken, as the seat shows it
 
-abbrev pub IsStop : PumpEnd → Place → Type 0
-IsStop ended.PeerEnd k = ⊥
-IsStop ended.LinkFault k = ⊥
-IsStop (ended.BadStream fault) k = ⊥
-IsStop (ended.Refused r) k = ⊥
-IsStop ended.Done k = is_ended (setup_at k).mode Main (past_of k) ≡ true
-IsStop ended.NoMemory k = ⊤
-IsStop ended.LogFull k = is_log_full (setup_at k) (past_of k) ≡ true
-IsStop ended.Worn k = LAST_TICKET ≤ k.tickets
+abbrev pub IsStop : Wire → PumpEnd → Place → Type 0
+IsStop w ended.PeerEnd k = ⊥
+IsStop w ended.LinkFault k = ⊥
+IsStop w (ended.BadStream fault) k = ⊥
+IsStop w (ended.Refused r) k = ⊥
+IsStop w ended.Done k = is_ended (setup_at k).mode w (past_of k) ≡ true
+IsStop w ended.NoMemory k = ⊤
+IsStop w ended.LogFull k = is_log_full (setup_at k) (past_of k) ≡ true
+IsStop w ended.Worn k = LAST_TICKET ≤ k.tickets
 
--- ---- what is written to the link
+-- ---- what is written to a link
 
 -- all that was queued was taken out and written
-pub record Delivers (link0 link1 : Option (List ℕ)) (old new : Place) : Type 0 where
+pub record Delivers (w : Wire) (link0 link1 : Option (List ℕ)) (old new : Place) : Type 0 where
   pub turns : List Turn
   pub grows : Grows old new turns
-  pub work : All IsWork turns
+  pub work : All (IsWork w) turns
   pub got_none : gots_in turns ≡ []
   pub wrote : Appends link0 link1 (gave (setup_at old) turns)
-  pub all_taken : length (out (setup_at old) Main (past_of new))
-      ≤ taken (setup_at old) Main (past_of new)
+  pub all_taken : length (out (setup_at old) w (past_of new))
+      ≤ taken (setup_at old) w (past_of new)
 
 -- some of what was queued was taken out, and some of that was written
-pub record DeliversPart (cause : PumpEnd) (link0 link1 : Option (List ℕ)) (old new : Place) : Type 0
+pub record DeliversPart (w : Wire) (cause : PumpEnd) (link0 link1 : Option (List ℕ))
+    (old new : Place) : Type 0
   where
     pub turns : List Turn
     pub grows : Grows old new turns
-    pub work : All IsWork turns
+    pub work : All (IsWork w) turns
     pub got_none : gots_in turns ≡ []
     pub bytes : List ℕ
     pub wrote : Appends link0 link1 bytes
     pub front : IsPrefix bytes (gave (setup_at old) turns)
-    pub cause_is : (cause ≡ ended.LinkFault) ⊎ IsStop cause new
+    pub cause_is : (cause ≡ ended.LinkFault) ⊎ IsStop w cause new
 
 abbrev pub DeliveryCounts : Result ⊤ PumpEnd → Counts → Counts → Type 0
 DeliveryCounts (Ok u) old new = new ≡ old
 DeliveryCounts (Err ended.LinkFault) old new = FaultCounted old new
 DeliveryCounts (Err e) old new = new ≡ old
 
--- ---- one read of the link
+-- ---- one read of a link
 
 -- the values of the stream were got, all of them
-pub record GetsAll (before after : Stream) (old new : Place) : Type 0 where
+pub record GetsAll (w : Wire) (before after : Stream) (old new : Place) : Type 0 where
   pub turns : List Turn
   pub grows : Grows old new turns
-  pub work : All IsWork turns
+  pub work : All (IsWork w) turns
   pub gave_none : gave (setup_at old) turns ≡ []
   pub gots : gots_in turns ≡ (parse_values before).items
   pub fault : (parse_values before).fault ≡ None
   pub reader : after ≡ (parse_values before).stream
 
 -- why no more of a stream's values were got
-abbrev pub GettingStops : PumpEnd → Stream → List Turn → List Turn → Setup → Place → Type 0
-GettingStops (ended.BadStream fault) before ending turns s k =
+abbrev pub GettingStops : Wire → PumpEnd → Stream → List Turn → List Turn → Setup → Place → Type 0
+GettingStops w (ended.BadStream fault) before ending turns s k =
     (ending ≡ []) × (gots_in turns ≡ (parse_values before).items)
     × ((parse_values before).fault ≡ Some fault)
-GettingStops (ended.Refused r) before ending turns s k = EndsByValue s r ending
-GettingStops e before ending turns s k = (ending ≡ []) × IsStop e k
+GettingStops w (ended.Refused r) before ending turns s k = EndsByValue s w r ending
+GettingStops w e before ending turns s k = (ending ≡ []) × IsStop w e k
 
 -- some of the values of the stream were got, and the one that ended the link behind them
-pub record GetsPart (cause : PumpEnd) (before : Stream) (old new : Place) : Type 0 where
+pub record GetsPart (w : Wire) (cause : PumpEnd) (before : Stream) (old new : Place) : Type 0 where
   pub turns : List Turn
   pub ending : List Turn
   pub grows : Grows old new (ending ++ turns)
-  pub work : All IsWork turns
+  pub work : All (IsWork w) turns
   pub gave_none : gave (setup_at old) turns ≡ []
   pub gots : IsPrefix (gots_in (ending ++ turns)) (parse_values before).items
-  pub stops : GettingStops cause before ending turns (setup_at old) new
+  pub stops : GettingStops w cause before ending turns (setup_at old) new
 
 -- Nothing came; or a piece was read, and the values that are whole by then were got.
-pub data Hears (before after : Stream) (left0 left1 : Option (List ℕ)) (old new : Place) : Type 0
-  where
-    Idle : after ≡ before → new ≡ old → Consumes left0 left1 []
-        → Hears before after left0 left1 old new
-    Piece : (piece : List ℕ) → Consumes left0 left1 piece
-        → GetsAll (fed before piece) after old new → Hears before after left0 left1 old new
+pub data Hears (w : Wire) (before after : Stream) (left0 left1 : Option (List ℕ))
+    (old new : Place) : Type 0 where
+  Idle : after ≡ before → new ≡ old → Consumes left0 left1 []
+      → Hears w before after left0 left1 old new
+  Piece : (piece : List ℕ) → Consumes left0 left1 piece
+      → GetsAll w (fed before piece) after old new → Hears w before after left0 left1 old new
 
 abbrev pub IsOfLink : PumpEnd → Type 0
 IsOfLink ended.PeerEnd = ⊤
@@ -203,12 +205,12 @@ IsOfLink ended.LogFull = ⊥
 IsOfLink ended.Worn = ⊥
 
 -- The link gave no bytes; or a piece was read, and some of the values in it were got.
-pub data HearsPart (cause : PumpEnd) (before : Stream) (left0 left1 : Option (List ℕ))
-    (old new : Place) : Type 0 where
+pub data HearsPart (w : Wire) (cause : PumpEnd) (before : Stream)
+    (left0 left1 : Option (List ℕ)) (old new : Place) : Type 0 where
   Nothing : IsOfLink cause → new ≡ old → Consumes left0 left1 []
-      → HearsPart cause before left0 left1 old new
+      → HearsPart w cause before left0 left1 old new
   Part : (piece : List ℕ) → Consumes left0 left1 piece
-      → GetsPart cause (fed before piece) old new → HearsPart cause before left0 left1 old new
+      → GetsPart w cause (fed before piece) old new → HearsPart w cause before left0 left1 old new
 
 -- ---- a pump
 
@@ -242,11 +244,11 @@ FaultIs ended.Worn heard = ⊤
 -- read, in order, and what was written are the first bytes that the TakeOuts gave. Where the link
 -- ended, or failed, or its bytes have a fault, the values are all. Where its end was read the bytes
 -- are all too, and all was taken that was queued by the last Got, or at the start.
-pub record Work (cause : PumpEnd) (ending : List Turn) (left0 left1 link0 link1 : Option (List ℕ))
-    (old new : Place) : Type 0 where
+pub record Work (w : Wire) (cause : PumpEnd) (ending : List Turn)
+    (left0 left1 link0 link1 : Option (List ℕ)) (old new : Place) : Type 0 where
   pub turns : List Turn
   pub grows : Grows old new (ending ++ turns)
-  pub work : All IsWork turns
+  pub work : All (IsWork w) turns
   pub heard : List ℕ
   pub read : Consumes left0 left1 heard
   pub bytes : List ℕ
@@ -257,50 +259,50 @@ pub record Work (cause : PumpEnd) (ending : List Turn) (left0 left1 link0 link1 
   pub fault_is : FaultIs cause heard
   pub all_wrote : cause ≡ ended.PeerEnd → bytes ≡ gave (setup_at old) turns
   pub got_taken : cause ≡ ended.PeerEnd
-      → All (IsTaken (setup_at old) (taken (setup_at old) Main (past_of new))) turns
+      → All (IsTaken (setup_at old) w (taken (setup_at old) w (past_of new))) turns
   pub start_taken : cause ≡ ended.PeerEnd
-      → length (out (setup_at old) Main []) ≤ taken (setup_at old) Main (past_of new)
+      → length (out (setup_at old) w []) ≤ taken (setup_at old) w (past_of new)
 
 -- why a pump stops, before it ends the link
-abbrev pub Stops : PumpEnd → Setup → List Turn → Place → Type 0
-Stops ended.PeerEnd s ending k = ending ≡ []
-Stops ended.LinkFault s ending k = ending ≡ []
-Stops (ended.BadStream fault) s ending k = ending ≡ []
-Stops (ended.Refused r) s ending k = EndsByValue s r ending
-Stops e s ending k = (ending ≡ []) × IsStop e k
+abbrev pub Stops : Wire → PumpEnd → Setup → List Turn → Place → Type 0
+Stops w ended.PeerEnd s ending k = ending ≡ []
+Stops w ended.LinkFault s ending k = ending ≡ []
+Stops w (ended.BadStream fault) s ending k = ending ≡ []
+Stops w (ended.Refused r) s ending k = EndsByValue s w r ending
+Stops w e s ending k = (ending ≡ []) × IsStop w e k
 
-pub record Runs (cause : PumpEnd) (left0 left1 link0 link1 : Option (List ℕ)) (old new : Place)
-    : Type 0 where
+pub record Runs (w : Wire) (cause : PumpEnd) (left0 left1 link0 link1 : Option (List ℕ))
+    (old new : Place) : Type 0 where
   pub ending : List Turn
-  pub works : Work cause ending left0 left1 link0 link1 old new
-  pub stops : Stops cause (setup_at old) ending new
+  pub works : Work w cause ending left0 left1 link0 link1 old new
+  pub stops : Stops w cause (setup_at old) ending new
 
--- an End of the link, or none
-abbrev pub IsEnd : List Turn → Type 0
-IsEnd ending = (ending ≡ []) ⊎ ((past : List LogEntry) × (ending ≡ (entry.End Main, past) ∷ []))
+-- an End of that link, or none
+abbrev pub IsEnd : Wire → List Turn → Type 0
+IsEnd w ending = (ending ≡ []) ⊎ ((past : List LogEntry) × (ending ≡ (entry.End w, past) ∷ []))
 
 -- the link has ended in the client's log
-abbrev pub IsOver : Place → Type 0
-IsOver k = is_ended (setup_at k).mode Main (past_of k) ≡ true
+abbrev pub IsOver : Wire → Place → Type 0
+IsOver w k = is_ended (setup_at k).mode w (past_of k) ≡ true
 
 -- The last turn of a pump with this end. The link has ended by then, by this turn or by one of
 -- another seat, unless no ticket was left.
-abbrev pub Finishes : PumpEnd → Setup → List Turn → Place → Type 0
-Finishes ended.PeerEnd s ending k = IsEnd ending × IsOver k
-Finishes ended.LinkFault s ending k = IsEnd ending × IsOver k
-Finishes (ended.BadStream fault) s ending k = IsEnd ending × IsOver k
-Finishes (ended.Refused r) s ending k = EndsByValue s r ending × IsOver k
-Finishes ended.Done s ending k = (ending ≡ []) × IsOver k
-Finishes ended.NoMemory s ending k = IsEnd ending × IsOver k
-Finishes ended.LogFull s ending k =
-    IsEnd ending × IsOver k × (is_log_full (setup_at k) (past_of k) ≡ true)
-Finishes ended.Worn s ending k = (ending ≡ []) × (LAST_TICKET ≤ k.tickets)
+abbrev pub Finishes : Wire → PumpEnd → Setup → List Turn → Place → Type 0
+Finishes w ended.PeerEnd s ending k = IsEnd w ending × IsOver w k
+Finishes w ended.LinkFault s ending k = IsEnd w ending × IsOver w k
+Finishes w (ended.BadStream fault) s ending k = IsEnd w ending × IsOver w k
+Finishes w (ended.Refused r) s ending k = EndsByValue s w r ending × IsOver w k
+Finishes w ended.Done s ending k = (ending ≡ []) × IsOver w k
+Finishes w ended.NoMemory s ending k = IsEnd w ending × IsOver w k
+Finishes w ended.LogFull s ending k =
+    IsEnd w ending × IsOver w k × (is_log_full (setup_at k) (past_of k) ≡ true)
+Finishes w ended.Worn s ending k = (ending ≡ []) × (LAST_TICKET ≤ k.tickets)
 
-pub record Pumps (cause : PumpEnd) (left0 left1 link0 link1 : Option (List ℕ)) (old new : Place)
-    : Type 0 where
+pub record Pumps (w : Wire) (cause : PumpEnd) (left0 left1 link0 link1 : Option (List ℕ))
+    (old new : Place) : Type 0 where
   pub ending : List Turn
-  pub works : Work cause ending left0 left1 link0 link1 old new
-  pub finishes : Finishes cause (setup_at old) ending new
+  pub works : Work w cause ending left0 left1 link0 link1 old new
+  pub finishes : Finishes w cause (setup_at old) ending new
 
 -- the client knows of such an end, or no ticket is left to tell it
 abbrev pub is_known : PumpEnd → Bool
@@ -314,12 +316,12 @@ is_known ended.LogFull = false
 is_known ended.Worn = true
 
 -- the end of a pump and its last turn: an End, where the log does not end the link
-pub data Closes (before after : PumpEnd) (old new : Place) : Type 0 where
-  Kept : is_known before ≡ true → after ≡ before → new ≡ old → Closes before after old new
-  Ended : is_known before ≡ false → after ≡ before → (ending : List Turn) → IsEnd ending
-      → Grows old new ending → IsOver new → Closes before after old new
+pub data Closes (w : Wire) (before after : PumpEnd) (old new : Place) : Type 0 where
+  Kept : is_known before ≡ true → after ≡ before → new ≡ old → Closes w before after old new
+  Ended : is_known before ≡ false → after ≡ before → (ending : List Turn) → IsEnd w ending
+      → Grows old new ending → IsOver w new → Closes w before after old new
   NoTicket : is_known before ≡ false → after ≡ ended.Worn → Grows old new []
-      → LAST_TICKET ≤ new.tickets → Closes before after old new
+      → LAST_TICKET ≤ new.tickets → Closes w before after old new
 
 -- the ends of a pump are numbered from 1
 abbrev pub end_number : PumpEnd → ℕ

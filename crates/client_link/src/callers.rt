@@ -1,6 +1,6 @@
 //! The client's callers: each waits for the reply to its own command.
 ghost use Rattle.std.specs.Prelude.{◌≡◌, ◌<◌, IfOk, IfErr, length};
-ghost use Rattle.seat_turns.specs.Own.{IsWithin};
+ghost use Rattle.turn_lock.specs.Own.{IsWithin};
 ghost use Rattle.shared_cache.specs.declared.log.ClientCall.TheVariants as call;
 ghost use Rattle.shared_cache.specs.declared.log.ClientReply.TheVariants as reply;
 ghost use Rattle.shared_cache.specs.declared.log.LogEntry.TheVariants as entry;
@@ -8,10 +8,10 @@ ghost use Rattle.shared_client.specs.Turns.{Adds, Refuses, asked_reply};
 ghost use Rattle.client_link.specs.Callers.{is_not_ready, Fails, Fetches, FetchFails};
 ghost use Rattle.client_link.specs.Callers.{Sends, SendFails};
 
-use super::bell::Bell;
+use super::waiters::Waiters;
 use command_words::Query;
 use resp_value::{Value, Words};
-use shared_cache::ClientRefusal;
+use shared_cache::{ClientRefusal, Wire};
 use shared_client::{Asked, SharedClient, ask, poll, send};
 use std::sync::Wait;
 use turn_lock::{Seat, TurnLock};
@@ -40,7 +40,7 @@ fn ask_ready<R: Wait>(
     rt: &R,
     lock: &TurnLock<SharedClient>,
     seat: &mut Seat<SharedClient>,
-    bell: &Bell,
+    waiters: &Waiters,
     query: &Query,
 ) -> Result<Asked, ClientRefusal>
     requires lock { seat.old.lock ≡ lock.now }
@@ -50,7 +50,7 @@ fn ask_ready<R: Wait>(
     ensures err { IfErr result (λ e. Fails (call.Ask query.now) e seat.old seat.new) }
 {
     for _ in rt.forever() {
-        let rings = bell.rings();
+        let rings = waiters.rings();
         let Ok(copy) = query.copy() else {
             return Err(ClientRefusal::NoMemory);
         };
@@ -60,7 +60,7 @@ fn ask_ready<R: Wait>(
                 if !is_not_ready(refusal) {
                     return Err(refusal);
                 }
-                bell.sleep(rt, rings);
+                waiters.sleep(rt, rings);
             }
         }
     }
@@ -72,7 +72,7 @@ fn send_ready<R: Wait>(
     rt: &R,
     lock: &TurnLock<SharedClient>,
     seat: &mut Seat<SharedClient>,
-    bell: &Bell,
+    waiters: &Waiters,
     words: &Words,
 ) -> Result<u64, ClientRefusal>
     requires lock { seat.old.lock ≡ lock.now }
@@ -83,7 +83,7 @@ fn send_ready<R: Wait>(
     ensures err { IfErr result (λ e. Fails (call.Send words.now) e seat.old seat.new) }
 {
     for _ in rt.forever() {
-        let rings = bell.rings();
+        let rings = waiters.rings();
         let Ok(copy) = words.copy() else {
             return Err(ClientRefusal::NoMemory);
         };
@@ -93,7 +93,7 @@ fn send_ready<R: Wait>(
                 if !is_not_ready(refusal) {
                     return Err(refusal);
                 }
-                bell.sleep(rt, rings);
+                waiters.sleep(rt, rings);
             }
         }
     }
@@ -105,7 +105,7 @@ fn await_reply<R: Wait>(
     rt: &R,
     lock: &TurnLock<SharedClient>,
     seat: &mut Seat<SharedClient>,
-    bell: &Bell,
+    waiters: &Waiters,
     number: u64,
 ) -> Result<Value, ClientRefusal>
     requires lock { seat.old.lock ≡ lock.now }
@@ -115,10 +115,10 @@ fn await_reply<R: Wait>(
     ensures err { IfErr result (λ e. Refuses (call.Poll number) e seat.old seat.new) }
 {
     for _ in rt.forever() {
-        let rings = bell.rings();
+        let rings = waiters.rings();
         match poll(rt, lock, seat, number) {
             Ok(Some(value)) => return Ok(value),
-            Ok(None) => bell.sleep(rt, rings),
+            Ok(None) => waiters.sleep(rt, rings),
             Err(refusal) => return Err(refusal),
         }
     }
@@ -131,7 +131,7 @@ pub fn ask_through<R: Wait>(
     rt: &R,
     lock: &TurnLock<SharedClient>,
     seat: &mut Seat<SharedClient>,
-    bell: &Bell,
+    waiters: &Waiters,
     query: &Query,
 ) -> Result<Fetched, ClientRefusal>
     requires lock { seat.old.lock ≡ lock.now }
@@ -139,20 +139,23 @@ pub fn ask_through<R: Wait>(
     ensures ok { IfOk result (λ f. Fetches query.now f seat.old seat.new) }
     ensures err { IfErr result (λ e. FetchFails query.now e seat.old seat.new) }
 {
-    match ask_ready(rt, lock, seat, bell, query) {
+    match ask_ready(rt, lock, seat, waiters, query) {
         Ok(Asked::Hit { value, number }) => Ok(Fetched {
             value,
             from_cache: true,
             number,
         }),
-        Ok(Asked::Sent { number }) => match await_reply(rt, lock, seat, bell, number) {
-            Ok(value) => Ok(Fetched {
-                value,
-                from_cache: false,
-                number,
-            }),
-            Err(refusal) => Err(refusal),
-        },
+        Ok(Asked::Sent { number }) => {
+            waiters.wake(Wire::Main);
+            match await_reply(rt, lock, seat, waiters, number) {
+                Ok(value) => Ok(Fetched {
+                    value,
+                    from_cache: false,
+                    number,
+                }),
+                Err(refusal) => Err(refusal),
+            }
+        }
         Err(refusal) => Err(refusal),
     }
 }
@@ -162,7 +165,7 @@ pub fn send_through<R: Wait>(
     rt: &R,
     lock: &TurnLock<SharedClient>,
     seat: &mut Seat<SharedClient>,
-    bell: &Bell,
+    waiters: &Waiters,
     words: &Words,
 ) -> Result<Value, ClientRefusal>
     requires lock { seat.old.lock ≡ lock.now }
@@ -171,11 +174,14 @@ pub fn send_through<R: Wait>(
     ensures ok { IfOk result (λ v. Sends words.now v seat.old seat.new) }
     ensures err { IfErr result (λ e. SendFails words.now e seat.old seat.new) }
 {
-    match send_ready(rt, lock, seat, bell, words) {
-        Ok(number) => match await_reply(rt, lock, seat, bell, number) {
-            Ok(value) => Ok(value),
-            Err(refusal) => Err(refusal),
-        },
+    match send_ready(rt, lock, seat, waiters, words) {
+        Ok(number) => {
+            waiters.wake(Wire::Main);
+            match await_reply(rt, lock, seat, waiters, number) {
+                Ok(value) => Ok(value),
+                Err(refusal) => Err(refusal),
+            }
+        }
         Err(refusal) => Err(refusal),
     }
 }

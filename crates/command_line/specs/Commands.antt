@@ -17,7 +17,6 @@ use Rattle.command_line.specs.declared.settings.StormSettings.{StormSettings}
 use Rattle.command_line.specs.declared.settings.ServeSettings.{ServeSettings}
 use Rattle.command_line.specs.declared.settings.ScriptSettings.{ScriptSettings}
 use Rattle.command_line.specs.Options.{Word, Known, flag, valued, number_in, settings_by}
-use Rattle.command_line.specs.Unbuilt.{names_unbuilt}
 
 abbrev pub optional : Word → Known
 optional name = valued name false
@@ -181,7 +180,7 @@ script_of words = settings_by script_options script_from words
 
 -- ---- the program
 
--- what the words behind the program's name ask for
+-- what the words behind a command's name ask for
 abbrev pub asked_of : Word → List Word → Option Asked
 asked_of command words =
     if bytes_eq command (codes "world") then option_map asked.World (world_of words) else
@@ -190,8 +189,7 @@ asked_of command words =
     if bytes_eq command (codes "script") then option_map asked.Script (script_of words) else
     None
 
--- the same, where they name nothing that is not built yet
+-- what the words behind the program's name ask for
 abbrev pub command_of : List Word → Option Asked
 command_of [] = None
-command_of (command ∷ words) =
-    if names_unbuilt command words then None else asked_of command words
+command_of (command ∷ words) = asked_of command words

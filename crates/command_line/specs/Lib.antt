@@ -1,4 +1,3 @@
 pub mod Options
 pub mod Clap
 pub mod Commands
-pub mod Unbuilt

@@ -15,27 +15,23 @@ use super::options::{has_flag, read_number_in, read_options, read_port};
 use super::settings::{
     Asked, Caching, Connection, LimitSettings, ScriptSettings, ServeSettings, StormSettings, Text,
 };
-use super::unbuilt::is_unbuilt;
 use clap::{Arg, ArgAction, ArgMatches, Command};
 use resp_value::{NoMemory, Proto};
 use std::alloc::{AllocError, Global};
 
-/// What the words behind the program's name ask for: None exactly where they are not in the
-/// definition, or name what is not built yet.
+/// What the words behind the program's name ask for: None exactly where they are outside the
+/// definition.
 pub fn read_words(alloc: Global, words: &[String]) -> Result<Option<Asked>, NoMemory>
     ensures { IfOk result (λ asked. asked ≡ command_of (map string_bytes words.now)) }
 {
     let [name, rest @ ..] = words else {
         return Ok(None);
     };
-    if is_unbuilt(name.as_str(), rest) {
-        return Ok(None);
-    }
     read_command(alloc, name.as_str(), rest)
 }
 
-/// What the words behind a command's name ask for, whether or not it is built.
-pub fn read_command(alloc: Global, name: &str, words: &[String]) -> Result<Option<Asked>, NoMemory>
+/// What the words behind a command's name ask for.
+fn read_command(alloc: Global, name: &str, words: &[String]) -> Result<Option<Asked>, NoMemory>
     ensures { IfOk result (λ asked. asked ≡ asked_of name.now (map string_bytes words.now)) }
 {
     match name {

@@ -3,7 +3,6 @@
 //! It looks again at what the definition of the words refused, so that a person can be told which
 //! word it was. Nothing that it finds changes a status.
 
-use super::unbuilt::{UNBUILT_OPTION, is_unbuilt};
 use super::wrong_words::{Wanted, WrongWords};
 
 /// What is wrong with the words behind the program's name, if anything is.
@@ -15,18 +14,10 @@ pub fn find_wrong<'a>(words: &'a [String]) -> Option<WrongWords<'a>> {
     if !is_command(command) {
         return Some(WrongWords::UnknownCommand(command));
     }
-    if is_unbuilt(command, rest) {
-        return Some(WrongWords::UnbuiltOption(UNBUILT_OPTION));
-    }
-    find_wrong_of(command, rest)
-}
-
-/// The same of the words behind a command's name, whether or not all of it is built.
-pub fn find_wrong_of<'a>(command: &str, words: &'a [String]) -> Option<WrongWords<'a>> {
-    if let Some(wrong) = wrong_option(command, words) {
+    if let Some(wrong) = wrong_option(command, rest) {
         return Some(wrong);
     }
-    wrong_together(command, words)
+    wrong_together(command, rest)
 }
 
 fn is_command(word: &str) -> bool {

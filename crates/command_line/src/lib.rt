@@ -7,7 +7,6 @@ mod options;
 mod settings;
 #[cfg(test)]
 mod tests;
-mod unbuilt;
 mod wrong_words;
 
 pub use commands::read_words;

@@ -1,6 +1,4 @@
 //! Rows of words, for each command and option: what they settle, and what a person is told.
-use super::commands::read_command;
-use super::diagnosis::find_wrong_of;
 use super::{find_wrong, read_words};
 use resp_value::NoMemory;
 use std::alloc::Global;
@@ -74,7 +72,12 @@ world --out-max 6 --table-max=5
 script --connect h:1
 script --connect ::1:65535
 script --connect=-h:1
+script --connect=--redirect:1
+script --redirect --connect h:1
+script --connect h:1 --redirect --resp=3
 script --redirect --resp 2 --connect h:1
+script --resp=2 --mode optin --redirect --connect h:1
+script --mode bcast --redirect --prefix a --noloop --connect h:1 --resp 2
 script --resp=3 --connect h:1 --noloop
 script --mode default --connect h:1
 script --mode optin --connect h:1
@@ -258,28 +261,19 @@ script --connect h:1 --noloop --noloop
 script --connect h:1 --noloop=true
 script --connect h:1 --noloop=
 script --connect h:1 --redirect true
+script --connect h:1 --redirect=true
+script --connect h:1 --redirect --redirect
+script --connect h:1 --resp 2 --redirect --prefix a
+script --redirect
 script --connect --noloop";
-
-fn is_judged(
-    alloc: Global,
-    name: &str,
-    words: &[String],
-    is_taken: bool,
-) -> Result<bool, NoMemory> {
-    let asked = read_command(alloc, name, words)?;
-    let wrong = find_wrong_of(name, words);
-    Ok(asked.is_some() == is_taken && wrong.is_none() == is_taken)
-}
 
 /// Whether each row, a command and its words, is taken, or is not, and a person is told so.
 fn are_judged(alloc: Global, rows: &str, is_taken: bool) -> Result<bool, NoMemory> {
     for row in rows.split('\n') {
         let words = words_of(alloc, row)?;
-        let is_right = match words.as_slice() {
-            [name, words @ ..] => is_judged(alloc, name.as_str(), words, is_taken)?,
-            [] => false,
-        };
-        if !is_right {
+        let asked = read_words(alloc, words.as_slice())?;
+        let wrong = find_wrong(words.as_slice());
+        if asked.is_some() != is_taken || wrong.is_none() != is_taken {
             return Ok(false);
         }
     }
@@ -303,101 +297,46 @@ fn a_number_has_its_range_and_one_spelling(rt: HostRuntime) -> Result<(), Fail> 
 #[test]
 fn values_are_those_of_the_words_or_the_defaults(rt: HostRuntime) -> Result<(), Fail> {
     let alloc = rt.alloc();
-    for (name, line, wanted) in [
+    for (line, wanted) in [
         (
             "world",
-            "",
             "World(LimitSettings { table_max: 1000000, out_max: 8388608, history_max: 4000000 })",
         ),
         (
-            "world",
-            "--history-max=7 --table-max 5 --out-max 6",
+            "world --history-max=7 --table-max 5 --out-max 6",
             "World(LimitSettings { table_max: 5, out_max: 6, history_max: 7 })",
         ),
         (
-            "storm",
-            "--steps 8 --number 9",
+            "storm --steps 8 --number 9",
             "Storm(StormSettings { number: 9, steps: 8 })",
         ),
         (
-            "serve",
-            "--port 7000",
+            "serve --port 7000",
             "Serve(ServeSettings { port: 7000, workers: 4, connections: 0, limits: \
              LimitSettings { table_max: 1000000, out_max: 8388608, history_max: 1 } })",
         ),
         (
-            "script",
-            "--connect a:b:7",
+            "script --connect a:b:7",
             "Script(ScriptSettings { connect: Connection { host: Text { string: \"a:b\" }, \
              port: 7 }, resp: Three, caching: Default, prefix: None, capacity: 1024, \
              noloop: false, redirect: false })",
         ),
         (
-            "script",
-            "--mode bcast --connect=h:1 --noloop --prefix p --resp=2 --redirect --capacity 3",
+            "script --mode bcast --connect=h:1 --redirect --noloop --prefix p --resp 2 \
+             --capacity=3",
             "Script(ScriptSettings { connect: Connection { host: Text { string: \"h\" }, \
              port: 1 }, resp: Two, caching: Bcast, prefix: Some(Text { string: \"p\" }), \
              capacity: 3, noloop: true, redirect: true })",
         ),
     ] {
         let words = words_of(alloc, line)?;
-        let asked = read_command(alloc, name, words.as_slice())?;
+        let asked = read_words(alloc, words.as_slice())?;
         let printed = match asked {
             Some(asked) => format!(in alloc; "{asked:?}")?,
             None => String::new(alloc),
         };
-        assert!(rt; printed.as_str() == wanted, "{name} {line}: {printed}");
+        assert!(rt; printed.as_str() == wanted, "{line}: {printed}");
     }
-    Ok(())
-}
-
-// Words that are in the definition, with what is not built among them.
-const UNBUILT: &str = "\
-script --connect h:1 --resp 2 --redirect
-script --redirect --connect h:1";
-
-const BUILT: &str = "\
-world
-world --history-max 5
-world --table-max 1
-world --out-max=1
-world --table-max 1 --out-max 1
-world --table-max=4000000000 --history-max=1
-storm --number 0 --steps 0
-serve --port 1 --out-max 1
-serve --port 1 --workers 2 --connections 3 --history-max=5
-serve --port 1 --table-max=1
-script --connect h:1
-script --connect=h:1 --capacity=5
-script --connect h:1 --resp=3
-script --mode optin --connect h:1 --noloop
-script --mode=optout --connect h:1
-script --prefix a --mode bcast --connect h:1
-script --connect=--redirect:1";
-
-/// Whether each row asks for something that is built, or does not.
-fn are_built(alloc: Global, rows: &str, is_built: bool) -> Result<bool, NoMemory> {
-    for row in rows.split('\n') {
-        let words = words_of(alloc, row)?;
-        if read_words(alloc, words.as_slice())?.is_some() != is_built {
-            return Ok(false);
-        }
-    }
-    Ok(true)
-}
-
-#[test]
-fn words_that_name_what_is_not_built_ask_for_nothing(rt: HostRuntime) -> Result<(), Fail> {
-    let alloc = rt.alloc();
-    assert!(rt; are_built(alloc, BUILT, true)?, "a row of BUILT is refused");
-    assert!(rt;
-        are_judged(alloc, UNBUILT, true)?,
-        "a row of UNBUILT is outside the definition"
-    );
-    assert!(rt;
-        are_built(alloc, UNBUILT, false)?,
-        "a row of UNBUILT is taken"
-    );
     Ok(())
 }
 
@@ -409,10 +348,6 @@ fn what_is_wrong_is_said_of_the_first_wrong_word(rt: HostRuntime) -> Result<(), 
         ("worlds", "\"worlds\" is no command"),
         ("--help", "\"--help\" is no command"),
         ("storm --number 1", "--steps is missing"),
-        (
-            "script --connect h:1 --redirect",
-            "not built yet: --redirect",
-        ),
         ("script --noloop", "--connect is missing"),
         ("script --connect h:1 --resp 2", "--resp 2 needs --redirect"),
         (

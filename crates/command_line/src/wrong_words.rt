@@ -11,7 +11,7 @@ usage: zeovalki world [--table-max N] [--out-max N] [--history-max N] < SCHEDULE
        zeovalki serve --port N [--workers N] [--connections N]
                       [--table-max N] [--out-max N] [--history-max N]
        zeovalki script --connect HOST:PORT [--mode MODE] [--prefix P] [--noloop]
-                       [--resp 3] [--capacity N] < SCRIPT
+                       [--redirect] [--resp 2 | --resp 3] [--capacity N] < SCRIPT
 An option is --name value or --name=value, each at most once.
 ";
 
@@ -20,7 +20,6 @@ An option is --name value or --name=value, each at most once.
 pub enum WrongWords<'a> {
     NoCommand,
     UnknownCommand(&'a str),
-    UnbuiltOption(&'static str),
     UnknownOption(&'a str),
     NoOption(&'a str),
     WrittenTwice(&'a str),
@@ -71,7 +70,6 @@ impl fmt::Display for WrongWords<'_> {
         match self {
             WrongWords::NoCommand => f.write_str("no command is named"),
             WrongWords::UnknownCommand(word) => write!(f, "{word:?} is no command"),
-            WrongWords::UnbuiltOption(options) => write!(f, "not built yet: {options}"),
             WrongWords::UnknownOption(word) => write!(f, "{word:?} is no option of the command"),
             WrongWords::NoOption(word) => write!(f, "{word:?} is no option, and no value of one"),
             WrongWords::WrittenTwice(option) => write!(f, "--{option} is written twice"),

@@ -8,7 +8,8 @@ use Rattle.std.proofs.Crossing as std
 use Rattle.std.proofs.vec.Vec.TheSendSync as vec
 use Rattle.std.proofs.sync.Mutex.TheSendSync as mutex
 use Rattle.std.proofs.sync.ledger.Share.TheSendSync as share
-use Rattle.conn_worker.proofs.report.Report.TheSendSync as report
+use Rattle.conn_pool.proofs.reports.Reports.TheSendSync as reports
+use Rattle.conn_pool.proofs.bells.Bells.TheSendSync as bells
 use Rattle.conn_pool.proofs.dispatcher.Dispatcher.TheSendSync as dispatcher
 use Rattle.std.proofs.alloc.Global.TheSendSync as heap
 use Rattle.command_set.proofs.prior.Prior.TheSendSync as prior
@@ -33,6 +34,7 @@ use Rattle.server_book.specs.contracts.book.Book as book
 use Rattle.server_book.specs.contracts.book.Book.TheInside as book_parts
 use Rattle.turn_lock.proofs.lock.Seat.TheSendSync as seat
 use Rattle.turn_lock.proofs.lock.TurnLock.TheSendSync as lock
+use Rattle.conn_pool.specs.contracts.bells.Bells as bells_row
 use Rattle.conn_pool.specs.contracts.crew.Crew as crew
 use Rattle.conn_pool.specs.contracts.crew.Crew.TheInside as crew_parts
 use Rattle.std.specs.contracts.sync.Mutex as mutex_row
@@ -45,7 +47,8 @@ use Rattle.serial_model.specs.contracts.effect.Effect as effect
 use Rattle.serial_model.specs.contracts.history.Limits as limits
 use Rattle.serial_model.specs.contracts.history.Entry as entry
 use Rattle.serial_model.specs.contracts.history.BookCall as call
-use Rattle.serial_model.specs.contracts.history.BookReply as reply
+use Rattle.shared_book.proofs.posted.Posted.TheSendSync as posted
+use Rattle.shared_book.specs.contracts.logged.Answer as reply
 use Rattle.shared_book.specs.contracts.logged.SharedBookLogged.TheImpl as logged
 use Rattle.shared_book.specs.contracts.logged.SharedBook as shared
 use Rattle.shared_book.specs.contracts.logged.SharedBook.TheInside as shared_parts
@@ -132,7 +135,7 @@ book_send = view_send _ _ _ _ _ book_inside
 shared_inside : IsSend shared_parts.the_row
 shared_inside = declared_send shared_parts.the_type (
   search (sendable, as_row_send) depth 10,
-  (search (sendable, book_send) depth 10, tt),
+  (search (sendable, book_send) depth 10, (search (sendable, posted.the_send) depth 10, tt)),
 )
 
 pub shared_send : IsSend shared.the_row
@@ -148,8 +151,7 @@ module _ (L E : RattleType) (g : Ghosts L.Denot) (h : Ghosts E.Denot) (l : IsSen
         (
           search (sendable, share.the_send) depth 20,
           (
-            search (sendable, std.frees, heap.the_send, vec.the_send, report.the_send, as_row_send)
-                depth 20,
+            search (sendable, reports.the_send, as_row_send) depth 20,
             (search (sendable, as_row_send) depth 20, tt),
           ),
         ),
@@ -169,6 +171,9 @@ pub lock_sync : IsSync (lock_row.the_row shared.the_row limits.the_row entry.the
     reply.the_row logged.ghosts)
 lock_sync = search (sendable, shared_send, lock.the_sync) depth 20
 
+pub bells_sync : IsSync bells_row.the_row
+bells_sync = bells.the_sync
+
 pub ruleset crossing = (
   sendable,
   heap.the_send,
@@ -176,4 +181,5 @@ pub ruleset crossing = (
   dispatcher_sync,
   crew_send,
   lock_sync,
+  bells_sync,
 )

@@ -3,9 +3,9 @@ use Rattle.std.proofs.Common.{◌≡◌, ℕ, ◌≤◌, List, sym, refl, ap, su
 use Rattle.turn_lock.specs.Counts.{total}
 use Rattle.turn_lock.specs.History.{IsPrefix}
 use Rattle.serial_model.specs.History.{is_stopped}
-use Rattle.seat_turns.specs.Own.{past_of, turns_of, IsWithin, Grows}
-use Rattle.seat_turns.proofs.Owning.{total-append}
-use Rattle.seat_turns.proofs.Turning.{entries_begin}
+use Rattle.turn_lock.specs.Own.{past_of, turns_of, IsWithin, Grows}
+use Rattle.turn_lock.proofs.Owning.{total-append}
+use Rattle.turn_lock.proofs.Turning.{entries_begin}
 use Rattle.shared_book.specs.Turns.{Place, Turn, limits_in, limits_of}
 use Rattle.shared_book.proofs.Histories.{begins_lift, stopped_more}
 use Rattle.conn_worker.specs.declared.report.Report.{Report}

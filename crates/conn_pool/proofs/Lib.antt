@@ -1,6 +1,9 @@
+pub mod Complete
 mod Crossing
 mod Showing
 mod Tying
 mod Parting
 mod Once
 mod Leaving
+mod Sorting
+mod Adding

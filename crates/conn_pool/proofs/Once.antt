@@ -12,9 +12,9 @@ use Rattle.serial_model.specs.declared.history.Entry.{Entry}
 use Rattle.serial_model.specs.declared.history.Entry.TheVariants.{Admit, Run, Tick, Take, Close}
 use Rattle.serial_model.specs.History.{admitted, IsLegal}
 use Rattle.serial_model.proofs.Turning.{by_step, step_legal}
-use Rattle.seat_turns.specs.Own.{past_of, with_pasts, turns_of}
+use Rattle.turn_lock.specs.Own.{past_of, with_pasts, turns_of}
 use Rattle.shared_book.specs.Turns.{Place, Turn, TurnStep}
-use Rattle.seat_turns.proofs.Owning.{own_all, pasts_length}
+use Rattle.turn_lock.proofs.Owning.{own_all, pasts_length}
 use Rattle.conn_worker.specs.declared.report.Report.{Report}
 use Rattle.conn_worker.specs.Elsewhere.{closes, quits}
 use Rattle.conn_pool.specs.Ties.{Parted, admits, closing, names, quitting, requests, runs, Tied}

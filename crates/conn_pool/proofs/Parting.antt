@@ -12,9 +12,9 @@ use Rattle.serial_model.specs.declared.history.Limits.{Limits}
 use Rattle.serial_model.specs.declared.history.Entry.{Entry}
 use Rattle.serial_model.specs.declared.history.Entry.TheVariants.{Admit, Run, Tick, Take, Close}
 use Rattle.serial_model.specs.History.{has_ended, is_quit}
-use Rattle.seat_turns.specs.Own.{IsWithin, past_of, turns_of, Grows}
-use Rattle.seat_turns.proofs.Owning.{total-append}
-use Rattle.seat_turns.proofs.Turning.{entries_begin}
+use Rattle.turn_lock.specs.Own.{IsWithin, past_of, turns_of, Grows}
+use Rattle.turn_lock.proofs.Owning.{total-append}
+use Rattle.turn_lock.proofs.Turning.{entries_begin}
 use Rattle.shared_book.specs.Turns.{Place, Turn}
 use Rattle.conn_worker.specs.declared.report.Report.{Report}
 use Rattle.conn_worker.specs.declared.report.Ended.{Ended}

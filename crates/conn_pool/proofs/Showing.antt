@@ -10,13 +10,13 @@ use Rattle.turn_lock.specs.History.{IsPrefix}
 use Rattle.serial_model.specs.declared.history.Limits.{Limits}
 use Rattle.serial_model.specs.declared.history.Entry.{Entry}
 use Rattle.serial_model.specs.History.{has_ended, is_admitted, is_stopped}
-use Rattle.seat_turns.specs.Own.{past_of, Grows}
+use Rattle.turn_lock.specs.Own.{past_of, Grows}
 use Rattle.shared_book.specs.Turns.{IsCloseCause, IsServerCause, Place, Turn, limits_in, limits_of}
 use Rattle.shared_book.specs.declared.turns.Refusal.{Refusal}
 use Rattle.shared_book.specs.declared.turns.Refusal.TheVariants as refusal
-use Rattle.seat_turns.proofs.Growing.{grows_past}
+use Rattle.turn_lock.proofs.Growing.{grows_past}
 use Rattle.shared_book.proofs.Histories.{begins_lift, ended_more, stopped_more}
-use Rattle.seat_turns.proofs.Turning.{entries_begin}
+use Rattle.turn_lock.proofs.Turning.{entries_begin}
 use Rattle.conn_worker.specs.declared.report.Report.{Report}
 use Rattle.conn_worker.specs.declared.report.Ended.{Ended}
 use Rattle.conn_worker.specs.declared.report.Ended.TheVariants as ended

@@ -8,11 +8,11 @@ use Rattle.turn_lock.specs.Counts.{times, total}
 use Rattle.turn_lock.specs.History.{IsPrefix}
 use Rattle.serial_model.specs.declared.history.Entry.{Entry}
 use Rattle.serial_model.specs.declared.history.Entry.TheVariants.{Admit, Run, Tick, Take, Close}
-use Rattle.seat_turns.specs.Own.{own_list, with_pasts, turns_of, IsWithin, Grows}
+use Rattle.turn_lock.specs.Own.{own_list, with_pasts, turns_of, IsWithin, Grows}
 use Rattle.shared_book.specs.Turns.{Place, Turn}
-use Rattle.seat_turns.proofs.Owning.{own_joined, pasts_begins, pasts_within, total-append}
-use Rattle.seat_turns.proofs.Owning.{within_append, within_begins}
-use Rattle.seat_turns.proofs.Growing.{grows_then}
+use Rattle.turn_lock.proofs.Owning.{own_joined, pasts_begins, pasts_within, total-append}
+use Rattle.turn_lock.proofs.Owning.{within_append, within_begins}
+use Rattle.turn_lock.proofs.Growing.{grows_then}
 use Rattle.conn_worker.specs.declared.report.Report.{Report}
 use Rattle.conn_worker.specs.Visits.{IsWork, runs_in, Visits, Served, NotServed}
 use Rattle.conn_worker.proofs.Parting.{Parts, close_turns, leaves_parts}

@@ -2,13 +2,13 @@
 use Rattle.std.specs.Prelude.{◌≡◌, ◌≤◌, ◌<◌, ◌⊎◌, ℕ, List, Bool, true}
 use Rattle.atomic_table.specs.Seated.{TableId}
 use Rattle.serial_model.specs.History.{is_stopped}
-use Rattle.seat_turns.specs.Own.{past_of}
+use Rattle.turn_lock.specs.Own.{past_of}
 use Rattle.shared_book.specs.Turns.{IsServerCause, Place, limits_of, Refuses, Ticks}
 use Rattle.shared_book.specs.declared.turns.Refusal.{Refusal}
 use Rattle.conn_worker.specs.declared.report.Report.{Report}
 
 -- its seat, the links that it took, how often it left the dispatcher, its parts of the two ledgers,
--- and its reports, where none was lost
+-- and its reports, where none was lost, of which each is kept or their totals
 pub record Team : Type 0 where
   pub seat : Place
   pub links : ℕ
@@ -16,6 +16,7 @@ pub record Team : Type 0 where
   pub gone : ℕ
   pub gone_parts : ℕ
   pub reports : List Report
+  pub each : Bool
   pub lost : Bool
 
 -- it has parts for so many workers
@@ -29,7 +30,7 @@ abbrev pub Same : Team → Team → Type 0
 Same old new =
     (new.seat.lock ≡ old.seat.lock) × (new.seat.setup ≡ old.seat.setup)
     × (new.seat.parts ≡ old.seat.parts) × (new.link_parts ≡ old.link_parts)
-    × (new.gone_parts ≡ old.gone_parts)
+    × (new.gone_parts ≡ old.gone_parts) × (new.each ≡ old.each)
 
 -- a SHUTDOWN ran, as a seat shows it
 abbrev pub IsStopped : Place → Type 0

@@ -3,4 +3,8 @@ pub mod Moves
 pub mod Ties
 pub mod Shown
 pub mod Crew
+pub mod Orders
+pub mod EndTotals
+pub mod Reported
 pub mod Outcome
+pub mod Complete

@@ -1,7 +1,6 @@
 -- What all workers left: one history, and what the reports say of it.
 use Rattle.std.specs.Prelude.{◌≡◌, ◌≤◌, ◌<◌, ℕ, List, true}
 use Rattle.std.specs.List.{All}
-use Rattle.std.specs.List.Sorted.{IsNonDecreasingBy}
 use Rattle.turn_lock.specs.Counts.{total}
 use Rattle.turn_lock.specs.History.{Legal, entries}
 use Rattle.turn_lock.specs.Seats.{ClosedLock}
@@ -12,11 +11,8 @@ use Rattle.shared_book.specs.Turns.{Shared, TurnStep}
 use Rattle.conn_worker.specs.declared.report.Ended.TheVariants as ended
 use Rattle.conn_worker.specs.declared.report.Report.{Report}
 use Rattle.conn_pool.specs.Ties.{admits, runs, names, requests}
+use Rattle.conn_pool.specs.Orders.{AreInOrder}
 use Rattle.conn_pool.specs.Shown.{Shows}
-
--- in order of the connections' ids
-abbrev pub AreInOrder : List Report → Type 0
-AreInOrder reports = IsNonDecreasingBy (λ (r : Report). r.id) reports
 
 -- the history drops the connection, where it is reported so
 abbrev pub IsDroppedBy : Limits → List Entry → Report → Type 0

@@ -5,7 +5,7 @@ use Rattle.turn_lock.specs.declared.rule.TheConstants.{LAST_TICKET}
 use Rattle.serial_model.specs.declared.history.Limits.{Limits}
 use Rattle.serial_model.specs.declared.history.Entry.{Entry}
 use Rattle.serial_model.specs.History.{has_ended, is_stopped}
-use Rattle.seat_turns.specs.Own.{past_of}
+use Rattle.turn_lock.specs.Own.{past_of}
 use Rattle.shared_book.specs.Turns.{Place, limits_of}
 use Rattle.conn_worker.specs.declared.report.Report.{Report}
 use Rattle.conn_worker.specs.declared.report.Ended.{Ended}

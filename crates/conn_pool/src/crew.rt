@@ -1,16 +1,19 @@
 //! The workers.
 ghost use Rattle.std.specs.Thread.{IsSync};
 ghost use Rattle.std.specs.Prelude.{◌≡◌, ◌+◌, ◌-◌, ◌<◌, ◌≤◌, [], true, false, length, IfSome};
-ghost use Rattle.seat_turns.specs.Own.{IsWithin, past_of, turns_of};
+ghost use Rattle.turn_lock.specs.Own.{IsWithin, past_of, turns_of};
 ghost use Rattle.conn_pool.specs.Ties.{Parted, Tied};
 ghost use Rattle.turn_lock.specs.History.{IsPrefix};
 ghost use Rattle.conn_pool.specs.Crew.{IsStopped, Leaves, Looks, Ready, Same};
 ghost use Rattle.conn_pool.specs.Shown.{AreShown};
 
+use super::bells::{Bells, Ringing};
 use super::dispatcher::{Dispatcher, Next, Opening};
-use conn_worker::{Gate, Report, serve_link};
+use super::reports::Reports;
+use conn_worker::{Gate, serve_link};
 use edge_links::{Acceptor, Clock};
 use shared_book::{Refusal, SharedBook, tick};
+use socket_links::Wakeable;
 use std::alloc::Global;
 use std::marker::Model;
 use std::sync::ledger::{Ledger, Share};
@@ -24,13 +27,13 @@ pub struct Crew<L: Ledger, E: Ledger> {
     seat: Seat<SharedBook>,
     links: Share<L>,
     gone: Share<E>,
-    reports: Vec<Report>,
+    reports: Reports,
     lost: bool,
 }
 
 impl<L: Ledger, E: Ledger> Model for Crew<L, E> {
     ghost use Rattle.std.specs.Prelude.{◌≡◌, false, length};
-    ghost use Rattle.seat_turns.specs.Own.{IsWithin, past_of, turns_of};
+    ghost use Rattle.turn_lock.specs.Own.{IsWithin, past_of, turns_of};
     ghost use Rattle.conn_pool.specs.Crew.{Team};
     ghost use Rattle.conn_pool.specs.Ties.{Parted, Tied};
     ghost use Rattle.conn_pool.specs.Shown.{AreShown};
@@ -44,6 +47,7 @@ impl<L: Ledger, E: Ledger> Model for Crew<L, E> {
       gone = c.gone.amount;
       gone_parts = c.gone.parts;
       reports = c.reports.items;
+      each = c.reports.each;
       lost = c.lost;
     } };
 
@@ -84,14 +88,17 @@ impl<L: Opening, E: Ledger> Crew<L, E> {
         lock: &TurnLock<SharedBook>,
         clock: &C,
         gate: &G,
+        bells: &Bells,
     ) -> Self
+    where
+        A::Link: Wakeable,
         requires { Ready lock.now 1 self }
         ensures same { Same self result }
         ensures left { Leaves self result }
     {
         let mut crew = self;
         for _ in rt.forever() {
-            if !crew.serve_next(rt, alloc, dispatcher, lock, clock, gate) {
+            if !crew.serve_next(rt, alloc, dispatcher, lock, clock, gate, bells) {
                 return crew;
             }
         }
@@ -109,7 +116,10 @@ impl<L: Opening, E: Ledger> Crew<L, E> {
         lock: &TurnLock<SharedBook>,
         clock: &C,
         gate: &G,
+        bells: &Bells,
     ) -> bool
+    where
+        A::Link: Wakeable,
         requires { Ready lock.now 1 self.old }
         ensures same { Same self.old self.new }
         ensures on { result ≡ true → self.new.gone ≡ self.old.gone }
@@ -118,7 +128,9 @@ impl<L: Opening, E: Ledger> Crew<L, E> {
         if finds_stop(rt, lock, &mut self.seat, clock) {
             return false;
         }
-        if self.reports.reserve(1).is_err() {
+        // Where keys left by its Tick, connections were told.
+        bells.ring(rt);
+        if self.reports.reserve().is_err() {
             self.lost = true;
             dispatcher.lock(rt).stop(&mut self.gone);
             return false;
@@ -127,8 +139,15 @@ impl<L: Opening, E: Ledger> Crew<L, E> {
         let next = dispatcher.lock(rt).next(&mut self.links, &mut self.gone);
         match next {
             Next::Link(mut link) => {
-                let report = serve_link(rt, alloc, lock, &mut self.seat, &mut link, clock, gate);
-                self.reports.push_reserved(report);
+                let bell = link.bell();
+                let gate = Ringing {
+                    rt,
+                    gate,
+                    bells,
+                    bell,
+                };
+                let report = serve_link(rt, alloc, lock, &mut self.seat, &mut link, clock, &gate);
+                self.reports.push(report);
             }
             Next::Wait => yield_now(),
             Next::Over => return false,
@@ -140,10 +159,11 @@ impl<L: Opening, E: Ledger> Crew<L, E> {
 impl<L: Ledger, E: Ledger> Crew<L, E> {
     /// A worker that has nothing yet.
     #[tactic(auto, using(crate::proofs::Parting::beginning))]
-    pub fn new(alloc: Global, seat: Seat<SharedBook>, links: Share<L>, gone: Share<E>) -> Self
+    pub fn new(seat: Seat<SharedBook>, links: Share<L>, gone: Share<E>, reports: Reports) -> Self
         requires within { IsWithin seat }
         requires own { seat.own ≡ [] }
         requires links { links.amount ≡ 0 }
+        requires reports { reports.items ≡ [] }
         ensures { result ≡ record {
           seat = seat;
           links = links.amount;
@@ -151,6 +171,7 @@ impl<L: Ledger, E: Ledger> Crew<L, E> {
           gone = gone.amount;
           gone_parts = gone.parts;
           reports = [];
+          each = reports.each;
           lost = false;
         } }
     {
@@ -158,20 +179,20 @@ impl<L: Ledger, E: Ledger> Crew<L, E> {
             seat,
             links,
             gone,
-            reports: Vec::new(alloc),
+            reports,
             lost: false,
         }
     }
 
     /// What it has, taken apart. None for the reports where some were lost.
-    pub fn apart(self) -> (Seat<SharedBook>, Share<L>, Share<E>, Option<Vec<Report>>)
+    pub fn apart(self) -> (Seat<SharedBook>, Share<L>, Share<E>, Option<Reports>)
         ensures seat { result.0 ≡ self.seat }
         ensures links { (result.1.amount ≡ self.links) × (result.1.parts ≡ self.link_parts) }
         ensures gone { (result.2.amount ≡ self.gone) × (result.2.parts ≡ self.gone_parts) }
         ensures reports { IfSome result.3
-            (λ v. (self.links ≡ length v.items) × Tied v.items (turns_of self.seat)
-            × AreShown v.items self.seat
-            × Parted v.items (turns_of self.seat) (past_of self.seat)) }
+            (λ r. (self.links ≡ length r.items) × Tied r.items (turns_of self.seat)
+            × AreShown r.items self.seat
+            × Parted r.items (turns_of self.seat) (past_of self.seat) × (r.each ≡ self.each)) }
     {
         let Crew {
             seat,
@@ -195,13 +216,14 @@ impl<L: Ledger, E: Ledger> Crew<L, E> {
           gone_parts = self.old.gone_parts - workers;
         } }
         ensures new { Ready lock.now workers result × (result.seat.setup ≡ self.old.seat.setup)
-            × (result.seat.parts ≡ workers) × (result.gone ≡ 0) }
+            × (result.seat.parts ≡ workers) × (result.gone ≡ 0)
+            × (result.each ≡ self.old.each) }
     {
         Crew {
             seat: lock.split(&mut self.seat, workers),
             links: self.links.split_off(workers, 0),
             gone: self.gone.split_off(workers, 0),
-            reports: Vec::new(alloc),
+            reports: self.reports.new_alike(alloc),
             lost: false,
         }
     }
@@ -211,6 +233,7 @@ impl<L: Ledger, E: Ledger> Crew<L, E> {
     fn join(&mut self, lock: &TurnLock<SharedBook>, other: Self)
         requires lock { (self.old.seat.lock ≡ lock.now) × (other.seat.lock ≡ lock.now) }
         requires setup { other.seat.setup ≡ self.old.seat.setup }
+        requires each { other.each ≡ self.old.each }
         ensures seat { (self.new.seat.lock ≡ self.old.seat.lock)
             × (self.new.seat.setup ≡ self.old.seat.setup)
             × (self.new.seat.parts ≡ self.old.seat.parts + other.seat.parts) }
@@ -219,18 +242,19 @@ impl<L: Ledger, E: Ledger> Crew<L, E> {
         ensures amounts { (self.new.links ≡ self.old.links + other.links)
             × (self.new.gone ≡ self.old.gone + other.gone) }
         ensures seen { IsPrefix self.old.seat.seen self.new.seat.seen }
+        ensures each { self.new.each ≡ self.old.each }
     {
         let Crew {
             seat,
             links,
             gone,
-            mut reports,
+            reports,
             lost,
         } = other;
         lock.join(&mut self.seat, seat);
         self.links.merge(links);
         self.gone.merge(gone);
-        if self.reports.append(&mut reports).is_err() || lost {
+        if self.reports.append(reports).is_err() || lost {
             self.lost = true;
         }
     }
@@ -251,15 +275,18 @@ pub fn fan_out<
     lock: &TurnLock<SharedBook>,
     clock: &C,
     gate: &G,
+    bells: &Bells,
     mut crew: Crew<L, E>,
     workers: u64,
 ) -> Crew<L, E>
+where
+    A::Link: Wakeable,
     requires { Ready lock.now workers crew }
     ensures same { Same crew result }
     ensures left { Leaves crew result }
 {
     if workers == 1 {
-        return crew.work(rt, alloc, dispatcher, lock, clock, gate);
+        return crew.work(rt, alloc, dispatcher, lock, clock, gate, bells);
     }
     let theirs = workers / 2;
     let ours = workers - theirs;
@@ -269,11 +296,15 @@ pub fn fan_out<
         || -> Crew<L, E>
             requires { IsSync R.row × IsSync C.row × IsSync G.row × Ready lock.now ours crew }
             ensures { Same crew result × Leaves crew result }
-        { fan_out(rt, alloc, dispatcher, lock, clock, gate, crew, ours) },
+        { fan_out(rt, alloc, dispatcher, lock, clock, gate, bells, crew, ours) },
         || -> Crew<L, E>
             requires { IsSync R.row × IsSync C.row × IsSync G.row × Ready lock.now theirs other }
             ensures { Same other result × Leaves other result }
-        { fan_out(rt, alloc, dispatcher, lock, clock, gate, other, theirs) },
+        {
+            fan_out(
+                rt, alloc, dispatcher, lock, clock, gate, bells, other, theirs,
+            )
+        },
     );
     mine.join(lock, others);
     mine

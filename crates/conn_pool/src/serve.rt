@@ -1,19 +1,23 @@
 //! All workers, from the acceptor that is handed in to the book that comes back.
-ghost use Rattle.std.specs.Prelude.{◌≡◌, ◌<◌, ◌≤◌, ◌⊎◌, true, false, length, IfOk};
-ghost use Rattle.std.specs.List.Sorted.{IsPermutation};
+ghost use Rattle.std.specs.Prelude.{◌≡◌, ◌<◌, ◌≤◌, ◌⊎◌, ◌==◌, true, false, not, length};
+ghost use Rattle.std.specs.Prelude.{IfOk};
 ghost use Rattle.edge_links.specs.Counts.{Counted};
 ghost use Rattle.serial_model.specs.History.{is_stopped};
 ghost use Rattle.serial_model.specs.Steps.{AreValid};
+ghost use Rattle.conn_pool.specs.Complete.{Completes};
 ghost use Rattle.conn_pool.specs.Dispatcher.{after_giving, still};
-ghost use Rattle.conn_pool.specs.Outcome.{AreInOrder, Stands};
+ghost use Rattle.conn_pool.specs.Outcome.{Stands};
 
+use super::bells::Bells;
 use super::crew::{Crew, fan_out};
 use super::dispatcher::{Dispatcher, Opening, Stage};
-use conn_worker::{Gate, Report};
+use super::reports::Reports;
+use conn_worker::Gate;
 use edge_links::{Acceptor, Clock};
 use resp_value::NoMemory;
 use serial_model::Limits;
-use shared_book::{SharedBook, open};
+use shared_book::{Opened, SharedBook, open_told};
+use socket_links::Wakeable;
 use std::alloc::Global;
 use std::marker::Brand;
 use std::sync::ledger::{Blank, Ledger};
@@ -25,19 +29,9 @@ use turn_lock::Closed;
 #[derive(Drop)]
 pub struct Served<A> {
     pub book: Closed<SharedBook>,
-    pub reports: Vec<Report>,
+    pub reports: Reports,
     pub accept_failed: bool,
     pub acceptor: A,
-}
-
-// The reports in order of their ids.
-fn in_order(mut reports: Vec<Report>) -> Vec<Report>
-    ensures same { IsPermutation reports.items result.items }
-    ensures length { length result.items ≡ length reports.items }
-    ensures order { AreInOrder result.items }
-{
-    reports.sort_unstable_by_key(|report| report.id);
-    reports
 }
 
 fn serve_named<
@@ -59,6 +53,8 @@ fn serve_named<
     workers: u64,
     connections: u64,
 ) -> Result<Served<A>, NoMemory>
+where
+    A::Link: Wakeable,
     requires limits { AreValid limits }
     requires workers { 1 ≤ workers }
     requires links { (links.name ≡ L.name) × (links.parts ≡ L.parts) × (L.parts ≡ workers) }
@@ -79,13 +75,25 @@ fn serve_named<
     ensures within { IfOk result
         (λ s. 0 < connections → length s.reports.items ≤ connections) }
     ensures history { IfOk result (λ s. Stands limits s.reports.items s.book) }
+    ensures kept { IfOk result (λ s. s.reports.each ≡ not (connections == 0)) }
 {
     let (book, share) = links.open::<L>();
     let (left, leaving) = gone.open::<E>();
-    let (lock, seat) = open(alloc, limits)?;
-    let crew = Crew::new(alloc, seat, share, leaving);
+    let Opened { lock, seat, posted } = open_told(alloc, limits)?;
+    let bells = Bells::new(alloc, posted);
+    let crew = Crew::new(seat, share, leaving, Reports::new(alloc, connections != 0));
     let dispatcher = Mutex::new(Dispatcher::new(acceptor, connections, book, left));
-    let crew = fan_out(rt, alloc, &dispatcher, &lock, clock, gate, crew, workers);
+    let crew = fan_out(
+        rt,
+        alloc,
+        &dispatcher,
+        &lock,
+        clock,
+        gate,
+        &bells,
+        crew,
+        workers,
+    );
     let (seat, mut share, mut leaving, reports) = crew.apart();
     let (acceptor, stage) = dispatcher.into_inner().end(&mut share, &mut leaving);
     let Ok(book) = lock.close(seat) else {
@@ -94,7 +102,7 @@ fn serve_named<
     let Some(reports) = reports else {
         return Err(NoMemory);
     };
-    let reports = in_order(reports);
+    let reports = reports.in_order();
     let accept_failed = match stage {
         Stage::NoMemory => return Err(NoMemory),
         Stage::Failed => true,
@@ -109,7 +117,8 @@ fn serve_named<
 }
 
 /// Serves the acceptor's links by so many workers, until it is closed or failed, or gave so many
-/// links, or a SHUTDOWN ran; 0 is no limit.
+/// links, or a SHUTDOWN ran; 0 is no limit. With a limit each report is kept, and without one their
+/// totals, so that a connection that came and went takes no memory here.
 pub fn serve_all<
     A: Acceptor + Send + Drop,
     C: Clock + Sync,
@@ -125,6 +134,8 @@ pub fn serve_all<
     workers: u64,
     connections: u64,
 ) -> Result<Served<A>, NoMemory>
+where
+    A::Link: Wakeable,
     requires limits { AreValid limits }
     requires workers { (1 ≤ workers) × (workers ≤ 64) }
     ensures given { IfOk result (λ s. still (A.left acceptor)
@@ -141,6 +152,11 @@ pub fn serve_all<
     ensures within { IfOk result
         (λ s. 0 < connections → length s.reports.items ≤ connections) }
     ensures history { IfOk result (λ s. Stands limits s.reports.items s.book) }
+    ensures complete { IfOk result (λ s.
+        ¬ Counted (A.counts acceptor).faults (A.counts s.acceptor).faults
+        → Completes limits connections (A.counts acceptor) (A.counts s.acceptor) s.reports.items
+        s.book s.accept_failed) }
+    ensures kept { IfOk result (λ s. s.reports.each ≡ not (connections == 0)) }
 {
     serve_named::<Brand, Brand, A, C, G, R>(
         rt,

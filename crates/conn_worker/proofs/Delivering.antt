@@ -13,18 +13,17 @@ use Rattle.serial_model.specs.declared.history.Entry.{Entry}
 use Rattle.serial_model.specs.declared.history.Entry.TheVariants.{Take}
 use Rattle.serial_model.specs.History.{gives_on, is_admitted, reads_on, stream, taken, unsent}
 use Rattle.serial_model.proofs.Streams.{stream_take}
-use Rattle.seat_turns.specs.Own.{past_of, IsWithin, Grows}
+use Rattle.turn_lock.specs.Own.{past_of, IsWithin, Grows}
 use Rattle.resp_value.specs.declared.octets.Octets.{Octets}
 use Rattle.shared_book.specs.Turns.{Place, Turn, Gives, Rests, Refuses, Takes, limits_in, limits_of}
 use Rattle.shared_book.specs.Turns.{IsCause, most}
 use Rattle.shared_book.specs.declared.turns.Refusal.{Refusal}
-use Rattle.seat_turns.proofs.Growing.{grows_none, grows_then, grows_past, order_append}
+use Rattle.turn_lock.proofs.Growing.{grows_none, grows_then, grows_past, order_append}
 use Rattle.shared_book.proofs.Histories.{begins_lift, admitted_more, stream_begins, unsent_kept}
 use Rattle.conn_worker.specs.declared.report.Ended.TheVariants as ended
 use Rattle.conn_worker.specs.declared.report.Ended.{Ended}
 use Rattle.conn_worker.specs.Visits.{IsWork, ended_by, runs_in, gave, Delivers, DeliversPart}
 use Rattle.conn_worker.specs.Visits.{Begins}
-use Rattle.conn_worker.specs.declared.deliver.Front.TheVariants.{Taken}
 use Rattle.edge_links.proofs.Bytes.{appends_none, appends_more, appends_as}
 
 -- what was taken and written so far
@@ -199,14 +198,14 @@ module _ (id : ℕ) (link0 link1 link2 : Option (List ℕ)) (old mid new : Place
 
 -- the first bytes were taken
 module _ (id : ℕ) (link : Option (List ℕ)) (before now : Place) where
-  none_written : (taken : Option Octets) → Begins id (Taken taken) before now
+  none_written : (front : Option Octets) → Begins id front before now
       → Delivering id link link before before
-  none_written taken b = delivering_none id link before b.0 b.1
+  none_written front b = delivering_none id link before b.0 b.1
 
-  pub begun_none : Begins id (Taken None) before now → Delivers id link link before now
+  pub begun_none : Begins id None before now → Delivers id link link before now
   begun_none b = delivers_rests id link link before before (none_written None b) now b.2
 
-  module _ (bytes : Octets) (b : Begins id (Taken (Some bytes)) before now) where
+  module _ (bytes : Octets) (b : Begins id (Some bytes) before now) where
     pub begun_more : (link1 : Option (List ℕ)) → Appends link link1 bytes
         → Delivering id link link1 before now
     begun_more link1 w =

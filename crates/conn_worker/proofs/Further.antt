@@ -9,7 +9,8 @@ use Rattle.conn_worker.specs.declared.connection.Connection.{Connection}
 use Rattle.conn_worker.specs.declared.connection.Stop.{Stop}
 use Rattle.conn_worker.specs.Quits.{fault_in, stop_behind, stop_in, up_to_quit}
 use Rattle.conn_worker.specs.Visits.{fed_connection, stop_of_reader}
-use Rattle.conn_worker.proofs.Stopping.{Requests, none_stopped, stop_joined, until_joined}
+use Rattle.conn_worker.specs.Parts.{Requests}
+use Rattle.conn_worker.proofs.Stopping.{none_stopped, stop_joined, until_joined}
 
 -- what was read stops nothing, and is read on from the reader
 module _ (heard piece : List ℕ) (reader : Stream) (on : GoesOn parse heard reader)

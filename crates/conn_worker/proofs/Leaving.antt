@@ -15,8 +15,8 @@ use Rattle.serial_model.specs.History.{state}
 use Rattle.serial_model.proofs.Standings as standings
 use Rattle.serial_model.proofs.StateSteps.{ended_by_run, run_stands_quit, tick_ended}
 use Rattle.serial_model.proofs.Streams.{ended_stays, keeps_run, keeps_tick, takes_run, takes_tick}
-use Rattle.seat_turns.specs.Own.{past_of}
-use Rattle.seat_turns.proofs.Owning.{total-append}
+use Rattle.turn_lock.specs.Own.{past_of}
+use Rattle.turn_lock.proofs.Owning.{total-append}
 use Rattle.shared_book.specs.Turns.{Place, Runs, Turn, limits_in, limits_of}
 use Rattle.shared_book.proofs.Histories.{admitted_more, begins_lift, ended_more, ended_or}
 use Rattle.conn_worker.specs.Elsewhere.{Closed, Dropped, HadEnded, HasQuit, Quit}

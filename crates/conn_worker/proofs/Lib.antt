@@ -1,3 +1,4 @@
+pub mod Complete
 pub mod Leaving
 mod Quitting
 pub mod Stopping
@@ -6,6 +7,8 @@ mod Turning
 mod Running
 mod Ticking
 mod Delivering
+mod Doing
+mod Progress
 pub mod Serving
-mod Rounding
+mod Hearing
 pub mod Parting

@@ -10,8 +10,8 @@ use Rattle.serial_model.specs.declared.history.Entry.{Entry}
 use Rattle.serial_model.specs.declared.history.Entry.TheVariants as entry
 use Rattle.serial_model.specs.History.{has_ended, is_admitted}
 use Rattle.serial_model.proofs.Standings as standings
-use Rattle.seat_turns.specs.Own.{IsWithin, past_of, Grows}
-use Rattle.seat_turns.proofs.Growing.{grows_none, grows_past}
+use Rattle.turn_lock.specs.Own.{IsWithin, past_of, Grows}
+use Rattle.turn_lock.proofs.Growing.{grows_none, grows_past}
 use Rattle.shared_book.specs.Turns.{Closes, IsCloseCause, Place, Refuses, Turn, limits_of}
 use Rattle.shared_book.specs.declared.turns.Refusal.{Refusal}
 use Rattle.shared_book.specs.declared.turns.Refusal.TheVariants as refusal

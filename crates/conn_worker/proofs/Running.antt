@@ -20,26 +20,26 @@ use Rattle.serial_model.specs.declared.history.Entry.TheVariants as entry
 use Rattle.serial_model.specs.declared.history.BookCall.{BookCall}
 use Rattle.serial_model.specs.declared.history.BookCall.TheVariants.{Admit, Run, Tick, Take, Close}
 use Rattle.serial_model.specs.History.{gives_on, is_admitted, is_quit, latest, runs_on}
-use Rattle.seat_turns.specs.Own.{IsWithin, Grows, past_of}
+use Rattle.turn_lock.specs.Own.{IsWithin, Grows, past_of}
 use Rattle.shared_book.specs.Turns.{Place, Turn, IsCause, limits_of}
-use Rattle.shared_book.specs.Batches.{IsRunAt, requests_in, RunsEach, RunsAndTakes, RunsFirst}
-use Rattle.resp_value.specs.declared.octets.Octets.{Octets}
+use Rattle.shared_book.specs.Batches.{IsRunAt, requests_in, RunsEach, RunsFirst}
 use Rattle.shared_book.specs.declared.turns.Refusal.{Refusal}
 use Rattle.shared_book.specs.declared.turns.Refusal.TheVariants as refusal
 use Rattle.shared_book.proofs.Histories.{admitted_more, begins_lift}
-use Rattle.seat_turns.proofs.Growing.{grows_none, grows_past, grows_then, order_append}
+use Rattle.turn_lock.proofs.Growing.{grows_none, grows_past, grows_then, order_append}
 use Rattle.conn_worker.specs.declared.report.Ended.TheVariants.{NoMemory}
 use Rattle.conn_worker.specs.declared.connection.Connection.{Connection}
 use Rattle.conn_worker.specs.declared.connection.Stop.{Stop}
 use Rattle.conn_worker.specs.declared.connection.Stop.TheVariants as stop
 use Rattle.conn_worker.specs.Elsewhere.{HasQuit}
 use Rattle.conn_worker.specs.Quits.{stop_behind, up_to_quit}
-use Rattle.conn_worker.specs.Visits.{IsWork, IsEnd, runs_in, gave, ended_by, ReadsAll, RunsPart}
-use Rattle.conn_worker.specs.Visits.{HearsAll, run_in, stop_of_reader}
+use Rattle.conn_worker.specs.Visits.{IsWork, IsEnd, runs_in, gave, ended_by, ReadsAll}
+use Rattle.conn_worker.specs.Visits.{run_in, stop_of_reader}
+use Rattle.conn_worker.specs.Parts.{Requests, RunsSome}
 use Rattle.conn_worker.proofs.Leaving.{had_ended_off, had_ended_ungiven, has_quit_now, has_quit_on}
-use Rattle.conn_worker.proofs.Stopping.{NoQuits, Requests, any_left, any_quit, front_none, none_in}
+use Rattle.conn_worker.proofs.Stopping.{NoQuits, any_left, any_quit, front_none, none_in}
 use Rattle.conn_worker.proofs.Stopping.{no_quits_more, none_quit, stop_joined, stop_quit}
-use Rattle.conn_worker.proofs.Stopping.{stopped_quits, unclosed_in, until_joined, until_quit}
+use Rattle.conn_worker.proofs.Stopping.{unclosed_in, until_joined, until_quit}
 
 -- what was read so far, and what is left of it
 pub record Reading (before now : Connection) (calls : List BookCall) : Type 0 where
@@ -172,7 +172,7 @@ gives_at old new r s g e = subst (λ x. RequestGives old new (Ok x)) e g
 -- ---- what was read ran
 
 -- the turns that ran these requests
-record Ran (clock : Option ℕ) (id : ℕ) (ws : List (List (List ℕ))) (old new : Place) : Type 0
+pub record Ran (clock : Option ℕ) (id : ℕ) (ws : List (List (List ℕ))) (old new : Place) : Type 0
   where
     pub turns : List Turn
     pub grows : Grows old new turns
@@ -181,7 +181,7 @@ record Ran (clock : Option ℕ) (id : ℕ) (ws : List (List (List ℕ))) (old ne
     pub runs : runs_in turns ≡ ws
     pub quits : any_quit ws ≡ true → HasQuit id new
 
-each_ran : (clock : Option ℕ) (id now : ℕ) → IfSome clock (λ m. now ≡ m)
+pub each_ran : (clock : Option ℕ) (id now : ℕ) → IfSome clock (λ m. now ≡ m)
     → (ws : List (List (List ℕ))) (old new : Place) → RunsEach id now ws old new
     → Ran clock id ws old new
 each_ran clock id now is [] old new h = record {
@@ -247,75 +247,47 @@ part_ends id clock refusal.NoMemory ws ts number k there work le is front quits 
 part_ends id clock refusal.Worn ws ts number k there work le is front quits run give = run
 part_ends id clock refusal.Stopped ws ts number k there work le is front quits run give = absurd run
 
--- what was read of `before`, as these calls, was run so far
-module _ (clock : Option ℕ) (now : ℕ) (before read : Connection) (calls : List BookCall)
-    (count : ℕ) (old new : Place) (is : IfSome clock (λ m. now ≡ m))
-    (same : (read.id ≡ before.id) × (read.requests ≡ before.requests))
-    (on : is_admitted (past_of old) before.id ≡ true) where
-  pub all_ran : (stop : Option Stop) (front : Option Octets)
-      → RunsAndTakes read.id now read.requests (requests_in calls) count front old new
-      → ReadsAll stop before read calls
-      → HearsAll clock (record { stop = stop; front = front }) before
-      (record read { requests = count }) old new
-  all_ran stop front told all =
-      let t : RunsAndTakes before.id now before.requests (requests_in calls) count front old new
-      = grind arith in
-      let ran = each_ran clock before.id now is (requests_in calls) old t.middle t.each in
+-- the first of these requests ran, and a turn was refused
+pub some_ran : (id now count ran : ℕ) (ws : Requests) (e : Refusal) (old new : Place)
+    → up_to_quit ws ≡ ws → is_admitted (past_of old) id ≡ true
+    → RunsFirst id now count ws ran e old new
+    → (some : RunsSome now (ended_by e) id ws old new)
+    × (ran ≡ count + length (runs_in some.turns))
+some_ran id now count ran ws e old new last on t =
+    let first = each_ran (Some now) id now refl (take t.number ws) old new t.each in
+    let long = ap length first.runs in
+    let front = length-take-le t.number ws t.within in
+    let there = begins_lift (λ past. is_admitted past id ≡ true) (admitted_more id) (past_of old)
+    (past_of new) (grows_past old new first.turns first.grows) on in (
       record {
-        middle = t.middle;
-        runs = record {
-          turns = ran.turns;
-          grows = ran.grows;
-          work = ran.work;
-          gave_none = ran.gave_none;
-          id = same.0;
-          requests = t.counted ∙ ap (λ z. before.requests + length z) (sym ran.runs);
-          counted = t.fits;
-          runs = ran.runs ∙ all.items;
-          stop_is = all.stop_is;
-          reader = all.reader;
-          quits = λ quit. ran.quits (ap any_quit all.items
-              ∙ stopped_quits (parse before.reader).items (parse before.reader).fault
-              (sym all.stop_is ∙ quit));
-        };
-        takes = t.takes;
-      }
-
-  pub part_ran : (stop : Option Stop) (e : Refusal)
-      → RunsFirst read.id now read.requests (requests_in calls) count e old new
-      → ReadsAll stop before read calls
-      → RunsPart clock (ended_by e) before (record read { requests = count }) old new
-  part_ran stop e told all =
-      let t : RunsFirst before.id now before.requests (requests_in calls) count e old new
-      = grind arith in
-      let some = take t.number (requests_in calls) in
-      let ran = each_ran clock before.id now is some old new t.each in
-      let long = ap length ran.runs in
-      let front = length-take-le t.number (requests_in calls) t.within in
-      let there = begins_lift (λ past. is_admitted past before.id ≡ true)
-      (admitted_more before.id) (past_of old) (past_of new)
-      (grows_past old new ran.turns ran.grows) on in
-      record {
-        turns = ran.turns;
-        grows = ran.grows;
-        work = ran.work;
-        gave_none = ran.gave_none;
-        id = same.0;
-        requests = omega (arith, t.counted, long, front);
+        turns = first.turns;
+        grows = first.grows;
+        work = first.work;
+        gave_none = first.gave_none;
         runs = (
-          drop t.number (requests_in calls),
-          grind (arith, take-append-drop),
+          drop t.number ws,
+          ap (λ z. z ++ drop t.number ws) first.runs ∙ take-append-drop t.number ws,
         );
-        cause_is = part_ends before.id clock e (requests_in calls) ran.turns t.number new there
-            ran.work t.within ran.runs
-            (λ less. subst (λ ws. NoQuits (take t.number ws)) (sym all.items)
-            (front_none (parse before.reader).items t.number
-            (subst (λ ws. t.number < length ws) all.items less)))
-            ran.quits t.cause_is t.take_is;
-      }
+        cause_is = part_ends id (Some now) e ws first.turns t.number new there first.work t.within
+            first.runs
+            (λ less. subst (λ z. NoQuits (take t.number z)) last
+            (front_none ws t.number (subst (λ z. t.number < length z) (sym last) less)))
+            first.quits t.cause_is t.take_is;
+      },
+      omega (arith, t.counted, long, front),
+    )
 
--- memory ran out before anything ran
-pub part_none : (clock : Option ℕ) (before after : Connection) (k : Place) → IsWithin k
-    → after.id ≡ before.id → after.requests ≡ before.requests
-    → RunsPart clock NoMemory before after k k
-part_none clock before after k is id requests = grind (arith, grows_none)
+-- memory ran out before any of them ran
+pub none_ran : (now id : ℕ) (ws : Requests) (k : Place) → IsWithin k
+    → (some : RunsSome now NoMemory id ws k k) × (length (runs_in some.turns) ≡ 0)
+none_ran now id ws k is = (
+  record {
+    turns = [];
+    grows = grows_none k is;
+    work = All-nil (IsWork id (Some now));
+    gave_none = refl;
+    runs = (ws, refl);
+    cause_is = tt;
+  },
+  refl,
+)

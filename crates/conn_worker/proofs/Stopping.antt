@@ -1,7 +1,7 @@
 -- What runs of requests up to a QUIT, and that a history has a QUIT that ran.
 use Rattle.std.proofs.Common.{◌≡◌, ◌∙◌, ◌⊎◌, refl, sym, ap, ℕ, List, [], ◌∷◌, ◌++◌, Bool, true}
 use Rattle.std.proofs.Common.{false, Some, None, append-nil, eq-eqb, inl, inr, ◌<◌, zero, suc}
-use Rattle.std.proofs.Common.{arith, cond, length, take}
+use Rattle.std.proofs.Common.{arith, cond, length, length-append, take}
 use Rattle.std.specs.Prelude.{if◌then◌else◌, Option, ◌==◌, ◌&&◌, ◌||◌, ⊤}
 use Rattle.std.specs.List.{All}
 use Rattle.std.proofs.lemmas.List.Elements.{All-head, All-tail}
@@ -17,9 +17,7 @@ use Rattle.conn_worker.specs.declared.connection.Stop.TheVariants.{Quit}
 use Rattle.conn_worker.specs.Elsewhere.{closes, closes_in, quits, quits_in}
 use Rattle.conn_worker.specs.Quits.{up_to_quit, stop_behind, has_quit}
 use Rattle.conn_worker.specs.Visits.{IsWork, run_in, runs_in}
-
-abbrev pub Requests : Type 0
-Requests = List (List (List ℕ))
+use Rattle.conn_worker.specs.Parts.{Requests}
 
 -- none of them is a QUIT
 abbrev pub NoQuits : Requests → Type 0
@@ -69,6 +67,42 @@ stop_joined (w ∷ ws) more f free =
 pub until_all : (ws : Requests) → NoQuits ws → up_to_quit ws ≡ ws
 until_all ws free =
     ap up_to_quit (sym (append-nil ws)) ∙ until_joined ws [] free ∙ append-nil ws
+
+-- what runs of requests runs of itself
+pub until_twice : (ws : Requests) → up_to_quit (up_to_quit ws) ≡ up_to_quit ws
+until_twice [] = refl
+until_twice (w ∷ ws) = by_head (is_quit w) w (up_to_quit ws) refl (until_twice ws)
+  where
+    by_head : (b : Bool) (w : List (List ℕ)) (rest : Requests) → is_quit w ≡ b
+        → up_to_quit rest ≡ rest
+        → up_to_quit (w ∷ (if b then [] else rest)) ≡ w ∷ (if b then [] else rest)
+    by_head true w rest e more = until_last (is_quit w) w [] e
+    by_head false w rest e more =
+        until_head (is_quit w) w (up_to_quit rest) e ∙ ap (λ z. w ∷ z) more
+
+tail_of : {A : Type 0} (x : A) (xs ys : List A) → x ∷ xs ≡ x ∷ ys → xs ≡ ys
+tail_of {A = A} x xs ys h = ap tail h
+  where
+    tail : List A → List A
+    tail [] = []
+    tail (z ∷ zs) = zs
+
+-- where all of them run, those before the last have no QUIT
+pub quits_last : (first rest : Requests) → up_to_quit (first ++ rest) ≡ first ++ rest
+    → 0 < length rest → NoQuits first × (up_to_quit rest ≡ rest)
+quits_last [] rest all some = (tt, all)
+quits_last (w ∷ first) rest all some =
+    by_head (is_quit w) refl (tail_of w _ (first ++ rest) all)
+    (λ more. quits_last first rest more some)
+  where
+    by_head : (b : Bool) → is_quit w ≡ b
+        → (if b then [] else up_to_quit (first ++ rest)) ≡ first ++ rest
+        → (up_to_quit (first ++ rest) ≡ first ++ rest
+        → NoQuits first × (up_to_quit rest ≡ rest))
+        → NoQuits (w ∷ first) × (up_to_quit rest ≡ rest)
+    by_head true e h more =
+        absurd (omega (arith, some, ap length h, length-append first rest))
+    by_head false e h more = ((e, (more h).0), (more h).1)
 
 pub no_quits_more : (ws : Requests) (w : List (List ℕ)) → NoQuits ws → is_quit w ≡ false
     → NoQuits (ws ++ w ∷ [])
@@ -160,7 +194,7 @@ or_right : (b c : Bool) → c ≡ true → (b || c) ≡ true
 or_right true c e = refl
 or_right false c e = e
 
-any_append : (xs ys : Requests) → any_quit (xs ++ ys) ≡ true
+pub any_append : (xs ys : Requests) → any_quit (xs ++ ys) ≡ true
     → (any_quit xs ≡ true) ⊎ (any_quit ys ≡ true)
 any_append [] ys e = inr e
 any_append (x ∷ xs) ys e =
@@ -170,6 +204,15 @@ any_append (x ∷ xs) ys e =
         | inl g ↦ inl (or_right (is_quit x) (any_quit xs) g)
         | inr g ↦ inr g
       ]
+    ]
+
+-- a QUIT behind requests of which none is one
+pub new_quit : (xs ys : Requests) → NoQuits xs → any_quit (xs ++ ys) ≡ true → any_quit ys ≡ true
+new_quit [] ys free any = any
+new_quit (x ∷ xs) ys free any =
+    elim (any_left (is_quit x) (any_quit (xs ++ ys)) any) [
+      | inl h ↦ absurd (let no : true ≡ false = sym h ∙ free.0 in cc)
+      | inr h ↦ new_quit xs ys free.1 h
     ]
 
 quit_more : (id : ℕ) (e : Entry) (past : List Entry) → has_quit id past ≡ true

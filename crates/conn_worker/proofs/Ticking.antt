@@ -5,7 +5,7 @@ use Rattle.std.specs.List.{All}
 use Rattle.std.specs.Io.KnownBytes.{Keeps}
 use Rattle.edge_links.specs.Counts.{IdleCounted}
 use Rattle.edge_links.proofs.Bytes.{consumes_kept, consumes_none}
-use Rattle.seat_turns.specs.Own.{Grows}
+use Rattle.turn_lock.specs.Own.{Grows}
 use Rattle.shared_book.specs.Turns.{IsServerCause, Place, Turn, limits_of, Refuses}
 use Rattle.shared_book.specs.declared.turns.Refusal.{Refusal}
 use Rattle.conn_worker.specs.declared.connection.Connection.{Connection}

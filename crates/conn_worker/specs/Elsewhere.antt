@@ -5,7 +5,7 @@ use Rattle.serial_model.specs.declared.history.Entry.{Entry}
 use Rattle.serial_model.specs.declared.history.Entry.TheVariants as entry
 use Rattle.serial_model.specs.EntryEffects.{was_dropped}
 use Rattle.serial_model.specs.History.{gives_on, has_ended, is_quit}
-use Rattle.seat_turns.specs.Own.{past_of}
+use Rattle.turn_lock.specs.Own.{past_of}
 use Rattle.shared_book.specs.Turns.{Place, Turn, limits_of}
 
 -- 1 for a Close of the connection

@@ -1,75 +1,59 @@
--- A visit round by round: in each the link is read once, the requests that are whole by then run,
+-- A visit round by round: in each the link is read once, the requests run that are whole by then,
 -- and all that waits for the connection is taken and written.
 use Rattle.std.specs.Prelude.{◌≡◌, ◌≤◌, ◌++◌, ◌⊎◌, ℕ, List, [], length, Option, Some, None, Err}
-use Rattle.std.specs.List.{All}
+use Rattle.std.specs.Prelude.{IfSome}
 use Rattle.std.specs.Io.KnownBytes.{Consumes, Keeps}
-use Rattle.resp_value.specs.Lists.{IsPrefix}
 use Rattle.resp_stream.specs.Parse.{requests_of}
 use Rattle.edge_links.specs.Counts.{IdleCounted}
 use Rattle.shared_book.specs.declared.turns.Refusal.{Refusal}
-use Rattle.seat_turns.specs.Own.{Grows}
-use Rattle.shared_book.specs.Turns.{Place, Turn, limits_of, Admits, IsServerCause, Refuses}
+use Rattle.shared_book.specs.Turns.{Place, Admits, IsServerCause, Refuses}
 use Rattle.conn_worker.specs.declared.report.Report.{Report}
 use Rattle.conn_worker.specs.declared.report.Ended.{Ended}
 use Rattle.conn_worker.specs.declared.report.Ended.TheVariants as ended
 use Rattle.conn_worker.specs.declared.connection.Stop.{Stop}
 use Rattle.conn_worker.specs.Quits.{ended_at, stop_in, up_to_quit}
-use Rattle.conn_worker.specs.Visits.{IsEnd, IsWork, runs_in, gave, Standing, LinkEnds}
-use Rattle.conn_worker.specs.Visits.{TicksAt, IsLeft, EndsService, ended_by, Delivers}
-use Rattle.conn_worker.specs.Visits.{DeliversPart, DeliveryCounts, Leaves}
+use Rattle.conn_worker.specs.Visits.{IsEnd, Standing, LinkEnds, TicksAt, IsLeft, EndsService}
+use Rattle.conn_worker.specs.Visits.{ended_by, DeliversPart, DeliveryCounts, Leaves}
+use Rattle.conn_worker.specs.Parts.{Breaks, InParts, Requests, Writes}
 
 -- the most bytes of one read
 abbrev pub most_read : ℕ
 most_read = 16384
-
--- the requests ran that are whole once `after` was read, and were not when `before` was; none
--- behind a QUIT
-pub record RunsNew (clock : Option ℕ) (id : ℕ) (before after : List ℕ) (old new : Place) : Type 0
-  where
-    pub turns : List Turn
-    pub grows : Grows old new turns
-    pub work : All (IsWork id clock) turns
-    pub gave_none : gave (limits_of old) turns ≡ []
-    pub runs : up_to_quit (requests_of after) ≡ requests_of before ++ runs_in turns
-
--- the first of them did
-pub record RunsSome (clock : Option ℕ) (cause : Ended) (id : ℕ) (before after : List ℕ)
-    (old new : Place) : Type 0 where
-  pub turns : List Turn
-  pub grows : Grows old new turns
-  pub work : All (IsWork id clock) turns
-  pub gave_none : gave (limits_of old) turns ≡ []
-  pub runs : IsPrefix (requests_of before ++ runs_in turns) (up_to_quit (requests_of after))
-  pub cause_is : IsEnd cause id turns new
 
 -- a Tick, or one that is left to the next read that brings nothing
 abbrev pub TicksOrLeaves : Option ℕ → Place → Place → Type 0
 TicksOrLeaves clock old new =
     TicksAt clock old new ⊎ ((e : Refusal) × IsLeft e × Refuses IsServerCause e old new)
 
--- One read of the link, by which all that was read went from `before` to `after`. Nothing came, the
--- link's count of idles rose, and a Tick was played; or a piece came, and its requests ran.
-pub data Hearing (clock : Option ℕ) (id : ℕ) (before after : List ℕ) (old new : Standing) : Type 0
-  where
-    Waited : after ≡ before → Consumes old.left new.left [] → Keeps old.contents new.contents
-        → IdleCounted old.counts new.counts → TicksOrLeaves clock old.place new.place
-        → Hearing clock id before after old new
-    Came : (piece : List ℕ) → after ≡ before ++ piece → length piece ≤ most_read
-        → Consumes old.left new.left piece → Keeps old.contents new.contents
-        → new.counts ≡ old.counts → RunsNew clock id before after old.place new.place
-        → Hearing clock id before after old new
+-- a read of the link brought nothing: its count of idles rose, and a Tick was played
+pub record Waits (clock : Option ℕ) (old new : Standing) : Type 0 where
+  pub took : Consumes old.left new.left []
+  pub kept : Keeps old.contents new.contents
+  pub counted : IdleCounted old.counts new.counts
+  pub ticks : TicksOrLeaves clock old.place new.place
 
--- all that waits was taken and written, and the link was not read
-pub record Writes (id : ℕ) (old new : Standing) : Type 0 where
-  pub delivers : Delivers id old.contents new.contents old.place new.place
-  pub unread : Keeps old.left new.left
+-- a read of the link brought a piece
+pub record Reads (piece : List ℕ) (old new : Standing) : Type 0 where
+  pub short : length piece ≤ most_read
+  pub took : Consumes old.left new.left piece
+  pub kept : Keeps old.contents new.contents
   pub counts : new.counts ≡ old.counts
+  pub place : new.place ≡ old.place
 
-pub record Round (clock : Option ℕ) (id : ℕ) (before after : List ℕ) (old new : Standing) : Type 0
+-- the requests are whole once `after` was read, and were not when `before` was; none behind a QUIT
+abbrev pub AreNew : List ℕ → List ℕ → Requests → Type 0
+AreNew before after requests = up_to_quit (requests_of after) ≡ requests_of before ++ requests
+
+-- One read of the link, by which all that was read went from `before` to `after`, and what came of
+-- it: all that waits was written, behind the requests of a piece, each of which ran.
+pub data Round (clock : Option ℕ) (id : ℕ) (before after : List ℕ) (old new : Standing) : Type 0
   where
-    pub middle : Standing
-    pub hears : Hearing clock id before after old middle
-    pub writes : Writes id middle new
+    Waited : (middle : Standing) → after ≡ before → Waits clock old middle → Writes id middle new
+        → Round clock id before after old new
+    Came : (middle : Standing) (piece : List ℕ) (requests : Requests) (now : ℕ)
+        → after ≡ before ++ piece → Reads piece old middle → AreNew before after requests
+        → IfSome clock (λ m. now ≡ m) → InParts now id requests middle new
+        → Round clock id before after old new
 
 -- whole rounds, one after another, and all that was read in them
 pub data Rounds (clock : Option ℕ) (id : ℕ) (start : Standing) : List ℕ → Standing → Type 0 where
@@ -90,15 +74,15 @@ pub data LastRound (clock : Option ℕ) (cause : Ended) (id : ℕ) (before after
       → Refuses IsServerCause e old.place new.place
       → Consumes old.left new.left [] → Keeps old.contents new.contents
       → LastRound clock cause id before after old new
-  -- a piece came, and a turn for its requests was refused
-  Refused : (piece : List ℕ) → after ≡ before ++ piece → length piece ≤ most_read
-      → Consumes old.left new.left piece → Keeps old.contents new.contents
-      → new.counts ≡ old.counts → RunsSome clock cause id before after old.place new.place
-      → LastRound clock cause id before after old new
-  -- what waits was not all taken and written
-  Unwritten : (middle : Standing) → Hearing clock id before after old middle
+  -- nothing came, and what waits was not all taken and written
+  Undelivered : (middle : Standing) → after ≡ before → Waits clock old middle
       → DeliversPart cause id middle.contents new.contents middle.place new.place
       → DeliveryCounts (Err cause) middle.counts new.counts → Keeps middle.left new.left
+      → LastRound clock cause id before after old new
+  -- a piece came, and a turn for its requests was refused, or what waits was not all written
+  Broken : (middle : Standing) (piece : List ℕ) (requests : Requests) (now ran : ℕ)
+      → after ≡ before ++ piece → Reads piece old middle → AreNew before after requests
+      → IfSome clock (λ m. now ≡ m) → Breaks now cause id requests ran middle new
       → LastRound clock cause id before after old new
   -- a QUIT ran, or the bytes have a fault, which is told once all that waits was written
   NoFurther : (stop : Stop) → cause ≡ ended_at stop → stop_in after ≡ Some stop

@@ -1,5 +1,5 @@
 -- What the service of one connection does to its seat and its link.
-use Rattle.std.specs.Prelude.{◌≡◌, ◌≤◌, ◌+◌, ◌⊎◌, ℕ, List, [], ◌∷◌, length, max, take, Option, Some}
+use Rattle.std.specs.Prelude.{◌≡◌, ◌≤◌, ◌⊎◌, ℕ, List, [], ◌∷◌, length, max, take, Option, Some}
 use Rattle.std.specs.Prelude.{None, Result, Ok, Err, IfSome, true, ⊤}
 use Rattle.std.specs.List.{All}
 use Rattle.std.specs.Io.KnownBytes.{Appends, Consumes}
@@ -14,24 +14,22 @@ use Rattle.serial_model.specs.History.{gives_on, is_admitted, is_stopped, latest
 use Rattle.serial_model.specs.History.{taken, unsent}
 use Rattle.turn_lock.specs.Counts.{total}
 use Rattle.turn_lock.specs.declared.rule.TheConstants.{LAST_TICKET}
+use Rattle.resp_value.specs.declared.octets.Octets.{Octets}
 use Rattle.shared_book.specs.declared.turns.Refusal.{Refusal}
 use Rattle.shared_book.specs.declared.turns.Refusal.TheVariants as refusal
 use Rattle.serial_model.specs.declared.history.BookCall.{BookCall}
-use Rattle.seat_turns.specs.Own.{past_of, IsWithin, Grows}
-use Rattle.seat_turns.specs.Turns.{in_order}
-use Rattle.shared_book.specs.Batches.{requests_in}
+use Rattle.turn_lock.specs.Own.{past_of, IsWithin, Grows}
+use Rattle.turn_lock.specs.Turns.{in_order}
+use Rattle.shared_book.specs.Batches.{IsRunAt, requests_in}
 use Rattle.shared_book.specs.Turns.{Place, Turn, IsCause, limits_of, Admits, Closes, Refuses}
 use Rattle.shared_book.specs.Turns.{IsCloseCause, IsServerCause, Takes, Ticks}
 use Rattle.conn_worker.specs.declared.report.Report.{Report}
 use Rattle.conn_worker.specs.declared.report.Ended.{Ended}
 use Rattle.conn_worker.specs.declared.report.Ended.TheVariants as ended
 use Rattle.conn_worker.specs.declared.connection.Connection.{Connection}
-use Rattle.conn_worker.specs.declared.connection.Behind.{Behind}
+use Rattle.conn_worker.specs.declared.connection.ReadRequests.{ReadRequests}
 use Rattle.conn_worker.specs.declared.connection.Stop.{Stop}
 use Rattle.conn_worker.specs.declared.connection.Stop.TheVariants as stop
-use Rattle.conn_worker.specs.declared.connection.Stop.TheVariants.{Quit}
-use Rattle.conn_worker.specs.declared.deliver.Front.{Front}
-use Rattle.conn_worker.specs.declared.deliver.Front.TheVariants as front
 use Rattle.conn_worker.specs.declared.serve.Heard.{Heard}
 use Rattle.conn_worker.specs.declared.serve.Heard.TheVariants as came
 use Rattle.conn_worker.specs.Quits.{has_quit, stop_behind, stop_in, up_to_quit}
@@ -116,47 +114,19 @@ pub record ReadsAll (stop : Option Stop) (before after : Connection) (calls : Li
   pub stop_is : stop ≡ stop_of_reader before
   pub reader : stop ≡ None → after.reader ≡ (parse before.reader).stream
 
--- some of the requests that the connection has read ran
-pub record RunsPart (clock : Option ℕ) (cause : Ended) (before after : Connection) (old new : Place)
-    : Type 0 where
-  pub turns : List Turn
-  pub grows : Grows old new turns
-  pub work : All (IsWork before.id clock) turns
-  pub gave_none : gave (limits_of old) turns ≡ []
-  pub id : after.id ≡ before.id
-  pub requests : after.requests ≡ before.requests + length (runs_in turns)
-  pub runs : IsPrefix (runs_in turns) (up_to_quit (parse before.reader).items)
-  pub cause_is : IsEnd cause before.id turns new
-
--- all of them ran, up to a QUIT, and why no more is read
-pub record RunsAll (clock : Option ℕ) (stop : Option Stop) (before after : Connection)
-    (old new : Place) : Type 0 where
-  pub turns : List Turn
-  pub grows : Grows old new turns
-  pub work : All (IsWork before.id clock) turns
-  pub gave_none : gave (limits_of old) turns ≡ []
-  pub id : after.id ≡ before.id
-  pub requests : after.requests ≡ before.requests + length (runs_in turns)
-  pub counted : after.requests ≤ length new.seen
-  pub runs : runs_in turns ≡ up_to_quit (parse before.reader).items
-  pub stop_is : stop ≡ stop_of_reader before
-  pub reader : stop ≡ None → after.reader ≡ (parse before.reader).stream
-  pub quits : stop ≡ Some Quit → HasQuit before.id new
-
--- all of them ran, and the first bytes that wait were taken
-pub record HearsAll (clock : Option ℕ) (behind : Behind) (before after : Connection)
-    (old new : Place) : Type 0 where
-  pub middle : Place
-  pub runs : RunsAll clock behind.stop before after old middle
-  pub takes : Takes before.id behind.front middle new
+-- the same of the requests of a read, which are to run at the clock's moment
+pub record HearsAll (clock : Option ℕ) (r : ReadRequests) (before after : Connection) : Type 0
+  where
+    pub reads : ReadsAll r.stop before after r.calls.items
+    pub runs : All (IsRunAt before.id r.now) r.calls.items
+    pub at : IfSome clock (λ m. r.now ≡ m)
 
 -- ---- what is written to a link
 
--- what waited for the connection was not asked for yet, or its first bytes were taken
-abbrev pub Begins : ℕ → Front → Place → Place → Type 0
-Begins id front.Untaken before now = now ≡ before
-Begins id (front.Taken bytes) before now =
-    IsWithin before × (is_admitted (past_of before) id ≡ true) × Takes id bytes before now
+-- the first bytes that waited for the connection were taken
+abbrev pub Begins : ℕ → Option Octets → Place → Place → Type 0
+Begins id front before now =
+    IsWithin before × (is_admitted (past_of before) id ≡ true) × Takes id front before now
 
 -- What waited for the connection was taken and written, all of it. A Close behind a QUIT, which is
 -- none of this call's, gives up the rest.
@@ -206,15 +176,11 @@ EndCounts ended.NoMemory old new = (new.faults ≡ old.faults) × (new.ends ≡ 
 EndCounts ended.Worn old new = (new.faults ≡ old.faults) × (new.ends ≡ old.ends)
 EndCounts ended.Stopped old new = (new.faults ≡ old.faults) × (new.ends ≡ old.ends)
 
-abbrev pub stop_of : Heard → Option Stop
-stop_of came.Idle = None
-stop_of (came.Left e) = None
-stop_of (came.Piece behind) = behind.stop
-
-abbrev pub front_of : Heard → Front
-front_of came.Idle = front.Untaken
-front_of (came.Left e) = front.Untaken
-front_of (came.Piece behind) = front.Taken behind.front
+-- the requests of a read, if it brought a piece
+abbrev pub read_in : Heard → Option ReadRequests
+read_in came.Idle = None
+read_in (came.Left e) = None
+read_in (came.Piece r) = Some r
 
 -- a Tick at the clock's moment
 pub record TicksAt (clock : Option ℕ) (old new : Place) : Type 0 where
@@ -240,7 +206,7 @@ EndsService refusal.Stopped = ⊤
 abbrev pub Idles : Option ℕ → Heard → Place → Place → Type 0
 Idles clock came.Idle old new = TicksAt clock old new
 Idles clock (came.Left e) old new = Refuses IsServerCause e old new × IsLeft e
-Idles clock (came.Piece behind) old new = ⊥
+Idles clock (came.Piece r) old new = ⊥
 
 -- a link and a seat, at a moment
 pub record Standing : Type 0 where
@@ -253,15 +219,16 @@ abbrev pub standing : Option (List ℕ) → Option (List ℕ) → Counts → Pla
 standing left contents counts place =
     record { left = left; contents = contents; counts = counts; place = place }
 
--- Nothing came, which the link counted; or a piece of at most so many bytes was read, and the
--- requests that are whole by then ran.
+-- Nothing came, which the link counted; or a piece of at most so many bytes was read, with the
+-- requests that are whole by then, which are to run.
 pub data Hears (clock : Option ℕ) (most : ℕ) (heard : Heard) (before after : Connection)
     (old new : Standing) : Type 0 where
   Idle : Idles clock heard old.place new.place → after ≡ before → Consumes old.left new.left []
       → IdleCounted old.counts new.counts → Hears clock most heard before after old new
-  Piece : (behind : Behind) → heard ≡ came.Piece behind → (piece : List ℕ) → length piece ≤ most
-      → Consumes old.left new.left piece → new.counts ≡ old.counts
-      → HearsAll clock behind (fed_connection before piece) after old.place new.place
+  Piece : (r : ReadRequests) → heard ≡ came.Piece r → (piece : List ℕ) → length piece ≤ most
+      → Consumes old.left new.left piece → new.counts ≡ old.counts → new.place ≡ old.place
+      → HearsAll clock r (fed_connection before piece) after
+      → after.id ≡ before.id → after.requests ≡ before.requests
       → Hears clock most heard before after old new
 
 -- the count of an end that the link gave rose
@@ -275,8 +242,7 @@ LinkEnds ended.NoMemory old new = ⊥
 LinkEnds ended.Worn old new = ⊥
 LinkEnds ended.Stopped old new = ⊥
 
--- The link gave no bytes, and perhaps the Tick was refused; or a piece was read, and some of the
--- requests in it ran.
+-- The link gave no bytes, and perhaps the Tick was refused; or memory ran out for what was read.
 pub data HearsPart (clock : Option ℕ) (most : ℕ) (cause : Ended) (before after : Connection)
     (old new : Standing) : Type 0 where
   Nothing : LinkEnds cause old.counts new.counts → after ≡ before → new.place ≡ old.place
@@ -286,10 +252,9 @@ pub data HearsPart (clock : Option ℕ) (most : ℕ) (cause : Ended) (before aft
       → Consumes old.left new.left []
       → IdleCounted old.counts new.counts
       → HearsPart clock most cause before after old new
-  Part : (piece : List ℕ) → length piece ≤ most → Consumes old.left new.left piece
-      → new.counts ≡ old.counts
-      → RunsPart clock cause (fed_connection before piece) after old.place new.place
-      → HearsPart clock most cause before after old new
+  Unread : cause ≡ ended.NoMemory → (piece : List ℕ) → length piece ≤ most
+      → Consumes old.left new.left piece → new.counts ≡ old.counts → new.place ≡ old.place
+      → after.requests ≡ before.requests → HearsPart clock most cause before after old new
 
 abbrev pub HearingCounts : Result Heard Ended → Counts → Counts → Type 0
 HearingCounts (Ok heard) old new = (new.faults ≡ old.faults) × (new.ends ≡ old.ends)

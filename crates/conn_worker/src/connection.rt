@@ -1,21 +1,25 @@
 //! What is read of a connection's link, and the requests in it.
-ghost use Rattle.std.specs.Prelude.{◌≡◌, ◌≤◌, [], true, length, IfOk, IfErr};
+ghost use Rattle.std.specs.Prelude.{◌≡◌, ◌≤◌, ◌+◌, [], true, length, IfOk, IfErr, OnOk};
+ghost use Rattle.std.specs.Io.KnownBytes.{Keeps};
 ghost use Rattle.std.specs.List.{All};
 ghost use Rattle.resp_stream.specs.Stream.{begun, fed};
 ghost use Rattle.serial_model.specs.History.{is_admitted};
-ghost use Rattle.seat_turns.specs.Own.{IsWithin, past_of};
-ghost use Rattle.shared_book.specs.Batches.{IsRunAt};
-ghost use Rattle.conn_worker.specs.Quits.{ended_at};
-ghost use Rattle.conn_worker.specs.Visits.{HearsAll, ReadsAll, RunsPart, fed_connection};
+ghost use Rattle.turn_lock.specs.Own.{IsWithin, past_of};
+ghost use Rattle.shared_book.specs.Batches.{IsRunAt, requests_in};
+ghost use Rattle.conn_worker.specs.Quits.{ended_at, up_to_quit};
+ghost use Rattle.conn_worker.specs.Visits.{DeliveryCounts, HearsAll, ReadsAll, fed_connection};
+ghost use Rattle.conn_worker.specs.Visits.{standing};
+ghost use Rattle.conn_worker.specs.Parts.{BreaksAt, InParts};
 
+use super::deliver::{deliver, deliver_from};
 use super::gate::Gate;
 use super::quit::is_quit;
 use super::report::{Ended, ended_by};
-use edge_links::Clock;
+use edge_links::{Clock, Link};
 use resp_stream::{RequestReader, StreamFault};
-use resp_value::{NoMemory, Octets};
+use resp_value::NoMemory;
 use serial_model::BookCall;
-use shared_book::{SharedBook, run_all};
+use shared_book::{Batch, BatchEnd, SharedBook, run_all};
 use std::alloc::Global;
 use std::sync::Wait;
 use turn_lock::{Seat, TurnLock};
@@ -41,13 +45,13 @@ impl Stop {
     }
 }
 
-/// What is behind the requests that were read and ran.
-#[derive(Debug, Drop)]
-pub struct Behind {
-    /// Why no more is read, if so.
+/// Requests that were read, as the calls that run them at this moment.
+#[derive(Drop)]
+pub struct ReadRequests {
+    pub calls: Vec<BookCall>,
+    pub now: u64,
+    /// Why nothing is read behind them, if so.
     pub stop: Option<Stop>,
-    /// The first bytes that wait for the connection, which were taken, if any do.
-    pub front: Option<Octets>,
 }
 
 /// A connection that is served: what was read of its link, and how many of its requests ran.
@@ -70,64 +74,97 @@ impl Connection {
         }
     }
 
-    /// Runs each whole request that is read with this piece, up to a QUIT, and takes the first
-    /// bytes that wait for the connection.
-    pub fn hear<R: Wait, C: Clock, G: Gate>(
+    /// Reads each request that is whole with this piece, up to a QUIT.
+    pub fn hear<C: Clock, G: Gate>(
         &mut self,
-        rt: &R,
         alloc: Global,
-        lock: &TurnLock<SharedBook>,
-        seat: &mut Seat<SharedBook>,
         clock: &C,
         gate: &G,
         piece: &[u8],
-    ) -> Result<Behind, Ended>
-        requires lock { seat.old.lock ≡ lock.now }
-        requires within { IsWithin seat.old }
-        requires admitted { is_admitted (past_of seat.old) self.old.id ≡ true }
-        requires counted { self.old.requests ≤ length seat.old.seen }
-        ensures ok { IfOk result (λ behind. HearsAll (C.moment clock.now) behind
-            (fed_connection self.old piece.now) self.new seat.old seat.new) }
-        ensures err { IfErr result (λ e. RunsPart (C.moment clock.now) e
-            (fed_connection self.old piece.now) self.new seat.old seat.new) }
+    ) -> Result<ReadRequests, NoMemory>
+        ensures same { (self.new.id ≡ self.old.id) × (self.new.requests ≡ self.old.requests) }
+        ensures ok { IfOk result (λ read. HearsAll (C.moment clock.now) read
+            (fed_connection self.old piece.now) self.new) }
     {
         if self.reader.feed(piece).is_err() {
-            return Err(Ended::NoMemory);
+            return Err(NoMemory);
         }
-        self.run_read(rt, alloc, lock, seat, clock, gate)
+        let now = clock.now_ms();
+        let mut calls = Vec::new(alloc);
+        match self.read_calls(gate, now, &mut calls) {
+            Ok(stop) => Ok(ReadRequests { calls, now, stop }),
+            Err(NoMemory) => Err(NoMemory),
+        }
     }
 
-    // Runs each whole request that was read, with the Take behind them, in one batch.
-    fn run_read<R: Wait, C: Clock, G: Gate>(
+    /// Runs these requests, and takes and writes what waits for the connection. Where some are held
+    /// back, because of all that waits, they run behind that.
+    pub fn run_parts<R: Wait, L: Link, G: Gate>(
         &mut self,
         rt: &R,
         alloc: Global,
         lock: &TurnLock<SharedBook>,
         seat: &mut Seat<SharedBook>,
-        clock: &C,
+        link: &mut L,
         gate: &G,
-    ) -> Result<Behind, Ended>
+        calls: Vec<BookCall>,
+        now: u64,
+    ) -> Result<(), Ended>
         requires lock { seat.old.lock ≡ lock.now }
         requires within { IsWithin seat.old }
         requires admitted { is_admitted (past_of seat.old) self.old.id ≡ true }
         requires counted { self.old.requests ≤ length seat.old.seen }
-        ensures ok { IfOk result (λ behind. HearsAll (C.moment clock.now) behind
-            self.old self.new seat.old seat.new) }
-        ensures err { IfErr result (λ e. RunsPart (C.moment clock.now) e
-            self.old self.new seat.old seat.new) }
+        requires runs { All (IsRunAt self.old.id now) calls.items }
+        requires quits { up_to_quit (requests_in calls.items) ≡ requests_in calls.items }
+        ensures same { (self.new.id ≡ self.old.id) × (self.new.reader ≡ self.old.reader) }
+        ensures ok { OnOk result (InParts now self.old.id (requests_in calls.items)
+            (standing (L.left link.old) (L.contents link.old) (L.counts link.old) seat.old)
+            (standing (L.left link.new) (L.contents link.new) (L.counts link.new) seat.new)) }
+        ensures counted { OnOk result
+            ((self.new.requests ≡ self.old.requests + length (requests_in calls.items))
+            × (self.new.requests ≤ length seat.new.seen)) }
+        ensures err { IfErr result (λ e. BreaksAt now e self.old.id (requests_in calls.items)
+            self.old.requests self.new.requests
+            (standing (L.left link.old) (L.contents link.old) (L.counts link.old) seat.old)
+            (standing (L.left link.new) (L.contents link.new) (L.counts link.new) seat.new)) }
+        ensures unread { Keeps (L.left link.old) (L.left link.new) }
+        ensures counts { DeliveryCounts result (L.counts link.old) (L.counts link.new) }
     {
-        let now = clock.now_ms();
-        let mut calls = Vec::new(alloc);
-        let stop = match self.read_calls(gate, now, &mut calls) {
-            Ok(stop) => stop,
-            Err(NoMemory) => return Err(Ended::NoMemory),
-        };
-        let batch = run_all(rt, alloc, lock, seat, self.id, self.requests, now, calls);
-        self.requests = batch.requests;
-        match batch.front {
-            Ok(front) => Ok(Behind { stop, front }),
-            Err(refusal) => Err(ended_by(refusal)),
+        let id = self.id;
+        let mut calls = calls;
+        for _ in rt.forever() {
+            let Batch { requests, end } = run_all(
+                rt,
+                alloc,
+                lock,
+                seat,
+                id,
+                self.requests,
+                now,
+                calls,
+            );
+            self.requests = requests;
+            match end {
+                BatchEnd::Refused(refusal) => return Err(ended_by(refusal)),
+                BatchEnd::Taken(front) => {
+                    match deliver_from(rt, lock, seat, link, id, front) {
+                        Ok(()) => {}
+                        Err(ended) => return Err(ended),
+                    }
+                    gate.after(id, requests);
+                    return Ok(());
+                }
+                BatchEnd::Held(held) => {
+                    match deliver(rt, lock, seat, link, id) {
+                        Ok(()) => {}
+                        Err(ended) => return Err(ended),
+                    }
+                    gate.after(id, requests);
+                    calls = held;
+                }
+            }
         }
+        unreachable!()
     }
 
     // Reads each whole request that was fed, up to a QUIT, as the call that runs it.

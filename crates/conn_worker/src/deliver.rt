@@ -2,7 +2,7 @@
 ghost use Rattle.std.specs.Prelude.{◌≡◌, true, IfErr, OnOk};
 ghost use Rattle.std.specs.Io.KnownBytes.{Keeps};
 ghost use Rattle.serial_model.specs.History.{is_admitted};
-ghost use Rattle.seat_turns.specs.Own.{IsWithin, past_of};
+ghost use Rattle.turn_lock.specs.Own.{IsWithin, past_of};
 ghost use Rattle.shared_book.specs.Turns.{Place};
 ghost use Rattle.conn_worker.specs.Visits.{Begins, Delivers, DeliversPart, DeliveryCounts};
 
@@ -12,15 +12,6 @@ use resp_value::Octets;
 use shared_book::{MOST, SharedBook, take};
 use std::sync::Wait;
 use turn_lock::{Seat, TurnLock};
-
-/// What of all that waits for a connection was asked for already.
-#[derive(Drop)]
-pub enum Front {
-    /// Nothing.
-    Untaken,
-    /// The first bytes, `MOST` or fewer; none where nothing waits.
-    Taken(Option<Octets>),
-}
 
 /// Takes what waits for the connection, until nothing waits, and writes it to the link.
 pub fn deliver<R: Wait, L: Link>(
@@ -59,14 +50,14 @@ pub fn deliver<R: Wait, L: Link>(
     unreachable!()
 }
 
-/// Writes the first bytes to the link, and then what else waits for the connection.
+/// Writes the first bytes that waited for the connection to the link, and then what else waits.
 pub fn deliver_from<R: Wait, L: Link>(
     rt: &R,
     lock: &TurnLock<SharedBook>,
     seat: &mut Seat<SharedBook>,
     link: &mut L,
     id: u64,
-    front: Front,
+    front: Option<Octets>,
 ) -> Result<(), Ended>
     requires lock { seat.old.lock ≡ lock.now }
     requires within { IsWithin seat.old }
@@ -79,9 +70,8 @@ pub fn deliver_from<R: Wait, L: Link>(
     ensures counts { DeliveryCounts result (L.counts link.old) (L.counts link.new) }
 {
     let bytes = match front {
-        Front::Untaken => return deliver(rt, lock, seat, link, id),
-        Front::Taken(None) => return Ok(()),
-        Front::Taken(Some(bytes)) => bytes,
+        None => return Ok(()),
+        Some(bytes) => bytes,
     };
     match write_all(link, bytes.as_slice()) {
         Ok(()) => {}

@@ -3,16 +3,18 @@ ghost use Rattle.std.specs.Prelude.{◌≡◌, ◌≤◌, ◌<◌, true, length,
 ghost use Rattle.std.specs.Io.KnownBytes.{Keeps};
 ghost use Rattle.resp_stream.specs.Stream.{begun};
 ghost use Rattle.serial_model.specs.History.{is_admitted};
-ghost use Rattle.seat_turns.specs.Own.{IsWithin, past_of};
+ghost use Rattle.turn_lock.specs.Own.{IsWithin, past_of};
 ghost use Rattle.conn_worker.specs.Visits.{EndCounts, Hears, HearsPart, HearingCounts, Leaves};
-ghost use Rattle.conn_worker.specs.Visits.{MayClose, Visits, Works, front_of, standing, stop_of};
+ghost use Rattle.conn_worker.specs.Visits.{MayClose, Visits, Works, read_in, standing};
 ghost use Rattle.conn_worker.specs.Rounds.{InRounds, Serves};
+ghost use Rattle.conn_worker.specs.Complete.{EndShows};
 
-use super::connection::{Behind, Connection, Stop};
-use super::deliver::{Front, deliver_from};
+use super::connection::{Connection, ReadRequests};
+use super::deliver::deliver;
 use super::gate::Gate;
 use super::report::{Ended, Report, ended_by};
 use edge_links::{Clock, Link, LinkRead};
+use resp_value::NoMemory;
 use shared_book::{Refusal, SharedBook, admit, close, tick};
 use std::alloc::Global;
 use std::sync::Wait;
@@ -28,25 +30,24 @@ pub(crate) enum Heard {
     Idle,
     /// Nothing. The keys that were due stayed, since memory ran out.
     Left(Refusal),
-    /// A piece, and what is behind its requests.
-    Piece(Behind),
+    /// A piece, and the requests that are whole with it.
+    Piece(ReadRequests),
 }
 
 impl Heard {
-    // Why no more is read, and what was taken already of what waits.
-    fn behind(self) -> (Option<Stop>, Front)
-        ensures { (result.0 ≡ stop_of self) × (result.1 ≡ front_of self) }
+    fn read(self) -> Option<ReadRequests>
+        ensures { result ≡ read_in self }
     {
         match self {
-            Heard::Idle => (None, Front::Untaken),
-            Heard::Left(_) => (None, Front::Untaken),
-            Heard::Piece(Behind { stop, front }) => (stop, Front::Taken(front)),
+            Heard::Idle => None,
+            Heard::Left(_) => None,
+            Heard::Piece(read) => Some(read),
         }
     }
 }
 
-// Reads the link once, and runs the requests that are whole by then. Where nothing came, the keys
-// that are due leave.
+// Reads the link once, and the requests that are whole by then. Where nothing came, the keys that
+// are due leave.
 fn hear_once<R: Wait, L: Link, C: Clock, G: Gate>(
     rt: &R,
     alloc: Global,
@@ -60,8 +61,6 @@ fn hear_once<R: Wait, L: Link, C: Clock, G: Gate>(
 ) -> Result<Heard, Ended>
     requires lock { seat.old.lock ≡ lock.now }
     requires within { IsWithin seat.old }
-    requires admitted { is_admitted (past_of seat.old) connection.old.id ≡ true }
-    requires counted { connection.old.requests ≤ length seat.old.seen }
     requires buffer { 0 < length buffer.old }
     ensures buffer { length buffer.new ≡ length buffer.old }
     ensures ok { IfOk result (λ heard. Hears (C.moment clock.now) (length buffer.old) heard
@@ -76,17 +75,9 @@ fn hear_once<R: Wait, L: Link, C: Clock, G: Gate>(
     ensures counts { HearingCounts result (L.counts link.old) (L.counts link.new) }
 {
     match link.read(buffer) {
-        LinkRead::Bytes(n) => match connection.hear(
-            rt,
-            alloc,
-            lock,
-            seat,
-            clock,
-            gate,
-            &buffer[..n],
-        ) {
-            Ok(behind) => Ok(Heard::Piece(behind)),
-            Err(ended) => Err(ended),
+        LinkRead::Bytes(n) => match connection.hear(alloc, clock, gate, &buffer[..n]) {
+            Ok(read) => Ok(Heard::Piece(read)),
+            Err(NoMemory) => Err(Ended::NoMemory),
         },
         LinkRead::Idle => match tick(rt, lock, seat, clock.now_ms()) {
             Ok(()) => Ok(Heard::Idle),
@@ -130,7 +121,7 @@ fn serve_admitted<R: Wait, L: Link, C: Clock, G: Gate>(
 {
     let mut buffer = [0u8; PIECE];
     for _ in rt.forever() {
-        let heard = hear_once(
+        let came = hear_once(
             rt,
             alloc,
             lock,
@@ -141,17 +132,28 @@ fn serve_admitted<R: Wait, L: Link, C: Clock, G: Gate>(
             connection,
             &mut buffer,
         );
-        let (stop, front) = match heard {
-            Ok(heard) => heard.behind(),
+        let heard = match came {
+            Ok(heard) => heard,
             Err(ended) => return ended,
         };
-        match deliver_from(rt, lock, seat, link, connection.id, front) {
-            Ok(()) => gate.after(connection.id, connection.requests),
-            Err(ended) => return ended,
-        }
-        match stop {
-            None => {}
-            Some(stop) => return stop.ended(),
+        match heard.read() {
+            None => {
+                match deliver(rt, lock, seat, link, connection.id) {
+                    Ok(()) => {}
+                    Err(ended) => return ended,
+                }
+                gate.after(connection.id, connection.requests);
+            }
+            Some(ReadRequests { calls, now, stop }) => {
+                match connection.run_parts(rt, alloc, lock, seat, link, gate, calls, now) {
+                    Ok(()) => {}
+                    Err(ended) => return ended,
+                }
+                match stop {
+                    None => {}
+                    Some(stop) => return stop.ended(),
+                }
+            }
         }
     }
     unreachable!()
@@ -197,8 +199,9 @@ fn leave<R: Wait>(
 
 /// Admits a connection, serves it over its link until it ends, and closes it. Each whole request
 /// that is read is one Run, and none behind a QUIT is; what waits for the connection is written
-/// before the next read. A read that brings nothing is one Tick, where a key is due; behind a
-/// SHUTDOWN that is refused, and the service ends.
+/// before the next read, and before the next request where `MOST` bytes of it wait. A read that
+/// brings nothing is one Tick, where a key is due; behind a SHUTDOWN that is refused, and the
+/// service ends.
 pub fn serve_link<R: Wait, L: Link, C: Clock, G: Gate>(
     rt: &R,
     alloc: Global,
@@ -216,6 +219,8 @@ pub fn serve_link<R: Wait, L: Link, C: Clock, G: Gate>(
     ensures rounds { InRounds (C.moment clock.now) result
         (standing (L.left link.old) (L.contents link.old) (L.counts link.old) seat.old)
         (standing (L.left link.new) (L.contents link.new) (L.counts link.new) seat.new) }
+    ensures complete { EndShows result.ended result (L.left link.old) (L.left link.new)
+        (L.counts link.old) (L.counts link.new) seat.new }
 {
     let id = match admit(rt, lock, seat) {
         Ok(id) => id,

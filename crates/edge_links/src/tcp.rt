@@ -55,6 +55,16 @@ impl TcpLink {
             patience: Patience::endless(),
         })
     }
+
+    /// The link over a connection that this end began.
+    pub fn dialled(stream: TcpStream) -> io::Result<Self>
+        ensures { IfOk result (λ l. ⟦<TcpLink as Link>⟧.counts l ≡ nought) }
+    {
+        let mut link = TcpLink::new(stream)?;
+        link.guard = WebGuard::open();
+        link.patience = Patience::of(UNANSWERED_READS);
+        Ok(link)
+    }
 }
 
 impl Link for TcpLink {
@@ -235,10 +245,7 @@ fn connect<R: net::Net<Listener = TcpListener, Stream = TcpStream>>(
 ) -> io::Result<TcpLink>
     ensures { IfOk result (λ l. ⟦<TcpLink as Link>⟧.counts l ≡ nought) }
 {
-    let mut link = TcpLink::new(TcpStream::connect(rt, (host, port))?)?;
-    link.guard = WebGuard::open();
-    link.patience = Patience::of(UNANSWERED_READS);
-    Ok(link)
+    TcpLink::dialled(TcpStream::connect(rt, (host, port))?)
 }
 
 impl<

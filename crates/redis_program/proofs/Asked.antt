@@ -1,11 +1,12 @@
 -- Words ask for a world, a storm, a server or a script alone, and their settings are valid.
 use Rattle.std.proofs.Common.{◌≡◌, ◌<◌, ◌≤◌, ◌∙◌, ℕ, Bool, cond, codes, inl, inr, List, []}
-use Rattle.std.proofs.Common.{◌∷◌, None, Some, arith, sym, ap}
+use Rattle.std.proofs.Common.{◌∷◌, None, Some, arith, sym, ap, subst, refl, true, false}
 use Rattle.std.specs.declared.option.Option.{Option}
 use Rattle.std.specs.Option.{option_map}
-use Rattle.std.specs.Prelude.{option_and_then, ◌⊎◌}
+use Rattle.std.specs.Prelude.{option_and_then, ◌⊎◌, ◌&&◌}
 use Rattle.std.specs.Str.{bytes_eq}
 use Rattle.resp_value.specs.declared.value.Proto.{Proto}
+use Rattle.resp_value.specs.declared.value.Proto.TheVariants.{Two, Three}
 use Rattle.serial_model.specs.Steps.{AreValid}
 use Rattle.command_line.specs.declared.settings.Asked.{Asked}
 use Rattle.command_line.specs.declared.settings.Asked.TheVariants.{World, Storm, Serve, Script}
@@ -16,20 +17,18 @@ use Rattle.command_line.specs.declared.settings.ScriptSettings.{ScriptSettings}
 use Rattle.command_line.specs.declared.settings.ServeSettings.{ServeSettings}
 use Rattle.command_line.specs.declared.settings.StormSettings.{StormSettings}
 use Rattle.command_line.specs.Options.{Word, is_true, number_in, option_value, options_of, value_of}
-use Rattle.command_line.specs.Commands.{command_of, limits, script}
+use Rattle.command_line.specs.Commands.{command_of, has_pushes, if_allowed, limits, script}
 use Rattle.command_line.specs.Commands.{script_from, script_of, script_options, serve, serve_from}
 use Rattle.command_line.specs.Commands.{serve_of, serve_options, storm, storm_from, storm_of}
-use Rattle.command_line.specs.Commands.{storm_options, world_of}
-use Rattle.command_line.specs.Unbuilt.{names_unbuilt}
+use Rattle.command_line.specs.Commands.{storm_options, takes_prefix, world_of}
 use Rattle.redis_program.specs.Headline.{limits_of}
 
 -- ---- the commands
 
-by_names : (a : Asked) (unbuilt world storm serve script : Bool) (w x y z : Option Asked)
-    → cond unbuilt None
-    (cond world w (cond storm x (cond serve y (cond script z None)))) ≡ Some a
+by_names : (a : Asked) (world storm serve script : Bool) (w x y z : Option Asked)
+    → cond world w (cond storm x (cond serve y (cond script z None))) ≡ Some a
     → (w ≡ Some a) ⊎ (x ≡ Some a) ⊎ (y ≡ Some a) ⊎ (z ≡ Some a)
-by_names a unbuilt world storm serve script w x y z e = grind arith
+by_names a world storm serve script w x y z e = grind arith
 
 is_world : (o : Option LimitSettings) (a : Asked) → option_map World o ≡ Some a
     → (s : LimitSettings) × (a ≡ World s) × (o ≡ Some s)
@@ -67,7 +66,7 @@ AsksOne a = AsksWorld a ⊎ AsksStorm a ⊎ AsksServe a ⊎ AsksScript a
 asks_one : (words : List Word) (a : Asked) → command_of words ≡ Some a → AsksOne a
 asks_one [] a e = absurd (let no : ⊥ = cc in no)
 asks_one (command ∷ words) a e =
-    by_part (by_names a (names_unbuilt command words) (bytes_eq command (codes "world"))
+    by_part (by_names a (bytes_eq command (codes "world"))
     (bytes_eq command (codes "storm")) (bytes_eq command (codes "serve"))
     (bytes_eq command (codes "script"))
     (option_map World (world_of words)) (option_map Storm (storm_of words))
@@ -188,15 +187,38 @@ settings_valid words s e = by_part (asks_one words (Serve s) e)
 
 -- ---- the settings of a script
 
--- the client holds as many keys as a client may
-abbrev IsPlayable : ScriptSettings → Type 0
-IsPlayable s = (0 < s.capacity) × (s.capacity ≤ 1000000)
+-- the client holds as many keys as a client may, and over one link it is of the third protocol
+pub record IsPlayable (s : ScriptSettings) : Type 0 where
+  pub some : 0 < s.capacity
+  pub most : s.capacity ≤ 1000000
+  pub pushes : s.redirect ≡ false → s.resp ≡ Three
+
+third_alone : (p : Proto) (redirect takes : Bool) → (has_pushes p redirect && takes) ≡ true
+    → redirect ≡ false → p ≡ Three
+third_alone Two true takes h e = absurd (let no : ⊥ = cc in no)
+third_alone Two false takes h e = absurd (let no : ⊥ = cc in no)
+third_alone Three redirect takes h e = refl
+
+allowed_pushes : (t s : ScriptSettings) → if_allowed t ≡ Some s → s.redirect ≡ false
+    → s.resp ≡ Three
+allowed_pushes t s h =
+    by_case (has_pushes t.resp t.redirect && takes_prefix t.caching t.prefix) refl h
+  where
+    by_case : (b : Bool)
+        → (has_pushes t.resp t.redirect && takes_prefix t.caching t.prefix) ≡ b
+        → cond b (Some t) None ≡ Some s → s.redirect ≡ false → s.resp ≡ Three
+    by_case true is e =
+        let same : t ≡ s = cc in
+        subst (λ (z : ScriptSettings). z.redirect ≡ false → z.resp ≡ Three) same
+        (third_alone t.resp t.redirect (takes_prefix t.caching t.prefix) is)
+    by_case false is e = absurd (let no : ⊥ = cc in no)
 
 all_playable : (connect : Option Connection) (resp : Option Proto) (caching : Option Caching)
     (prefix : Option (Option Word)) (capacity : Option ℕ) (noloop redirect : Bool)
     (s : ScriptSettings) → ((m : ℕ) → capacity ≡ Some m → (0 < m) × (m ≤ 1000000))
     → script connect resp caching prefix capacity noloop redirect ≡ Some s → IsPlayable s
-all_playable connect resp caching prefix capacity noloop redirect s q e = grind arith
+all_playable connect resp caching prefix capacity noloop redirect s q e =
+    grind (arith, allowed_pushes)
 
 from_playable : (value : Word → Option Word) (is_set : Word → Bool) (s : ScriptSettings)
     → script_from value is_set ≡ Some s → IsPlayable s
@@ -205,9 +227,9 @@ from_playable value is_set s e =
     (λ m h. number_within 1000000 1024 m (value (codes "capacity")) (omega arith) (omega arith) h)
     e
 
-script_valid : (words : List Word) (s : ScriptSettings) → script_of words ≡ Some s → IsPlayable s
+playable : (words : List Word) (s : ScriptSettings) → script_of words ≡ Some s → IsPlayable s
 unfolding script_of
-script_valid words s e = go (options_of script_options words) e
+playable words s e = go (options_of script_options words) e
   where
     go : (o : Option (List (Word × Word)))
         → option_and_then
@@ -219,13 +241,13 @@ script_valid words s e = go (options_of script_options words) e
         from_playable (option_value script_options (λ n. value_of n seen))
         (λ n. is_true (value_of n seen)) s h
 
-pub capacity_valid : (words : List Word) (s : ScriptSettings)
-    → command_of words ≡ Some (Script s) → (0 < s.capacity) × (s.capacity ≤ 1000000)
-capacity_valid words s e = by_part (asks_one words (Script s) e)
+pub script_valid : (words : List Word) (s : ScriptSettings) → command_of words ≡ Some (Script s)
+    → IsPlayable s
+script_valid words s e = by_part (asks_one words (Script s) e)
   where
     by_part : AsksOne (Script s) → IsPlayable s
     by_part (inl (t, is, rest, h)) = absurd (let no : ⊥ = cc in no)
     by_part (inr (inl (t, is, rest, h))) = absurd (let no : ⊥ = cc in no)
     by_part (inr (inr (inl (t, is, rest, h)))) = absurd (let no : ⊥ = cc in no)
     by_part (inr (inr (inr (t, is, rest, h)))) =
-        let same : s ≡ t = cc in script_valid rest s (h ∙ ap Some (sym same))
+        let same : s ≡ t = cc in playable rest s (h ∙ ap Some (sym same))

@@ -1,4 +1,5 @@
 pub mod Asked
+pub mod Completing
 pub mod Scripting
 pub mod Serving
 pub mod Scheduling

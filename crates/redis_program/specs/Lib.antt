@@ -3,3 +3,4 @@ pub mod Playing
 pub mod Scripting
 pub mod Serving
 pub mod Storming
+pub mod Complete

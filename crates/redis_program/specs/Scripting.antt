@@ -1,6 +1,6 @@
 -- What a run of a script comes to, and what its status rests on.
-use Rattle.std.specs.Prelude.{◌≡◌, ℕ, List, [], ◌∷◌, Option, Some, None, Result, Ok, Err}
-use Rattle.resp_value.specs.declared.value.Proto.TheVariants.{Three}
+use Rattle.std.specs.Prelude.{◌≡◌, ℕ, List, [], ◌∷◌, Bool, true, false, Option, Some, None}
+use Rattle.std.specs.Prelude.{Result, Ok, Err}
 use Rattle.edge_links.specs.declared.counts.Counts.{Counts}
 use Rattle.edge_lines.specs.declared.lines.SinkFailed.{SinkFailed}
 use Rattle.command_line.specs.declared.settings.Asked.TheVariants as asked
@@ -8,7 +8,8 @@ use Rattle.command_line.specs.declared.settings.Caching as settings
 use Rattle.command_line.specs.declared.settings.Caching.TheVariants as asks
 use Rattle.command_line.specs.declared.settings.ScriptSettings.{ScriptSettings}
 use Rattle.command_line.specs.Commands.{command_of}
-use Rattle.shared_cache.specs.declared.log.Shape.TheVariants.{Single}
+use Rattle.shared_cache.specs.declared.log.Shape.{Shape}
+use Rattle.shared_cache.specs.declared.log.Shape.TheVariants.{Single, Pair}
 use Rattle.shared_cache.specs.declared.log.Caching.{Caching}
 use Rattle.shared_cache.specs.declared.log.Caching.TheVariants.{Default, OptIn, OptOut, Bcast}
 use Rattle.shared_cache.specs.Held.{Setup}
@@ -39,12 +40,16 @@ caching_by asks.Bcast (Some prefix) = Bcast (prefix ∷ [])
 abbrev pub log_max : ℕ
 log_max = 4000000
 
--- a client of one link on RESP3
+-- with a link for invalidations, or without
+abbrev pub shape_by : Bool → Shape
+shape_by true = Pair
+shape_by false = Single
+
 abbrev pub client_of : ScriptSettings → Setup
 client_of s = record {
   mode = record {
-    shape = Single;
-    proto = Three;
+    shape = shape_by s.redirect;
+    proto = s.resp;
     caching = caching_by s.caching s.prefix;
     noloop = s.noloop;
   };
@@ -57,7 +62,7 @@ client_of s = record {
 -- the status of what was written of a script
 abbrev pub script_status : Result ScriptEnd SinkFailed → Status
 script_status (Ok (end.Played ended.Done)) = status.Done
-script_status (Ok (end.Played (ended.LinkEnded number))) = status.LinkEnded
+script_status (Ok (end.Played (ended.LinkEnded w number))) = status.LinkEnded
 script_status (Ok (end.Played ended.HistoryFull)) = status.HistoryFull
 script_status (Ok (end.Played ended.NoMemory)) = status.NoMemory
 script_status (Ok (end.Played ended.Worn)) = status.Worn

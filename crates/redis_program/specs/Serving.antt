@@ -33,6 +33,6 @@ pub record ServeGives {A L : Type 0} (settings : ServeSettings) (counts : A → 
     (out0 out1 : Option (List ℕ)) (net0 net1 : Counts) : Type 0 where
   pub end : Result ServeEnd SinkFailed
   pub status : answer ≡ served_status end
-  pub writes : WritesRun served end net0 net1 out0 out1
+  pub writes : WritesRun settings.connections served end net0 net1 out0 out1
   pub serves : IfSome served (λ s. ServesAll (limits_of settings.limits) settings.connections
       counts left s)

@@ -9,6 +9,7 @@ ghost use Rattle.command_line.specs.declared.settings.StormSettings.{StormSettin
 ghost use Rattle.command_line.specs.Commands.{command_of};
 ghost use Rattle.serve_run.specs.Written.{NetFailed};
 ghost use Rattle.redis_program.specs.declared.status.Status.TheVariants as status;
+ghost use Rattle.redis_program.specs.Complete.{IsAccepting, ScriptCompletes, ServeCompletes};
 ghost use Rattle.redis_program.specs.Headline.{Comes, EndsAs, IsVerdict, UsageGives, Writes};
 ghost use Rattle.redis_program.specs.Headline.{limits_of, text_lines};
 ghost use Rattle.redis_program.specs.Scripting.{AsksForScript, ScriptGives};
@@ -28,6 +29,7 @@ use edge_links::{Clock, Net, Sink, Source};
 use resp_value::NoMemory;
 use script_program::ScriptSession;
 use serial_model::Limits;
+use socket_links::Wakeable;
 use std::alloc::Global;
 use std::sync::Wait;
 use std::thread::Threads;
@@ -44,9 +46,9 @@ pub struct Outcome<N: Net> {
 /// Runs the program on the words behind its name. Those that ask for `world` have the schedule on
 /// the input played, which is `run_world`; those that ask for `storm` have the schedule of a number
 /// played, which is `run_storm`; those that ask for `serve` have what connects served over the net,
-/// which is `run_serve`; and those that ask for `script` have the script on the input played over a
-/// link that the net dials, which is `run_script`. Words outside the definition, or that name what
-/// is not built yet, are answered by the line `usage`, and nothing is read.
+/// which is `run_serve`; and those that ask for `script` have the script on the input played over
+/// links that the net dials, which is `run_script`. Words outside the definition are answered by
+/// the line `usage`, and nothing is read.
 ///
 /// What is promised of bytes holds where the source and the sink make theirs known, as those in
 /// memory do. The body is the same over every source and sink, so over the standard streams it
@@ -61,6 +63,8 @@ pub fn run<R: Threads + Wait + Terminal + Sync, S: Source, K: Sink, N: Net, C: C
     net: &mut N,
     clock: &C,
 ) -> Outcome<N>
+where
+    N::Link: Wakeable,
     ensures usage { command_of (map string_bytes words.now) ≡ None
         → UsageGives result.status (K.contents output.old) (K.contents output.new) }
     ensures usage_only { result.status ≡ status.Usage
@@ -94,12 +98,25 @@ pub fn run<R: Threads + Wait + Terminal + Sync, S: Source, K: Sink, N: Net, C: C
         → command_of (map string_bytes words.now) ≡ Some (asked.Serve settings)
         → ServeGives settings N.Acceptor.counts N.Acceptor.left result.served result.status
         (K.contents output.old) (K.contents output.new) (N.counts net.old) (N.counts net.new) }
+    ensures served { (settings : ServeSettings)
+        → command_of (map string_bytes words.now) ≡ Some (asked.Serve settings)
+        → ¬ Counted (N.counts net.old).faults (N.counts net.new).faults
+        → ¬ Counted (K.counts output.old).faults (K.counts output.new).faults
+        → IsAccepting N.Acceptor.counts result.served
+        → ServeCompletes settings N.Acceptor.counts result.served result.status }
     ensures script { (settings : ScriptSettings)
         → command_of (map string_bytes words.now) ≡ Some (asked.Script settings)
         → ScriptGives settings N.Link.left N.Link.contents N.Link.counts
         (S.left input.old) result.session result.status
         (S.counts input.old) (S.counts input.new) (N.counts net.old) (N.counts net.new)
         (K.contents output.old) (K.contents output.new) }
+    ensures played { (settings : ScriptSettings)
+        → command_of (map string_bytes words.now) ≡ Some (asked.Script settings)
+        → ¬ Counted (S.counts input.old).faults (S.counts input.new).faults
+        → ¬ Counted (N.counts net.old).faults (N.counts net.new).faults
+        → ¬ Counted (K.counts output.old).faults (K.counts output.new).faults
+        → ScriptCompletes settings N.Link.left N.Link.contents N.Link.counts
+        (S.left input.old) result.session result.status }
     ensures net { result.status ≡ status.NetFault
         → NetFailed result.served (N.counts net.old) (N.counts net.new) }
     ensures done { ¬ AsksToServe (map string_bytes words.now)

@@ -16,11 +16,12 @@ mod tests;
 
 use command_line::{FORMS, find_wrong};
 use dispatch::{refuse, run};
-use edge_links::{ReaderSource, Sink, Source, SystemClock, TcpNet, WriterSink};
+use edge_links::{ReaderSource, Sink, Source, SystemClock, WriterSink};
 use kept::{KeptSink, KeptSource};
 use line_fault::{find_line_fault, find_refusal};
 use schedule::write_no_memory;
 use script_fault::find_script_fault;
+use socket_links::SocketNet;
 use status::Status;
 use std::env::{self, Env};
 use std::io::{self, ErrorKind};
@@ -42,7 +43,7 @@ fn main(rt: HostRuntime) -> ExitCode {
         return end(&rt, write_no_memory(&mut output), is_script);
     };
     let mut input = KeptSource::new(alloc, input);
-    let mut net = TcpNet::new(rt);
+    let mut net = SocketNet::new(rt);
     let clock = SystemClock::new(rt);
     let outcome = run(&rt, alloc, words, &mut input, &mut output, &mut net, &clock);
     match outcome.status {
@@ -123,7 +124,7 @@ fn end(rt: &impl Eprint, status: Status, is_script: bool) -> ExitCode {
             eprintln!(rt; "zeovalki: the port could not be listened at, or no longer")
         }
         Status::LinkEnded => {
-            eprintln!(rt; "zeovalki: the link to the server ended before each line was answered")
+            eprintln!(rt; "zeovalki: a link to the server ended before each line was answered")
         }
         Status::HistoryFull if is_script => {
             eprintln!(rt; "zeovalki: the client's log has as many entries as it may have")

@@ -1,5 +1,6 @@
 //! The run of a script, by its settings, and its status.
-ghost use Rattle.std.specs.Prelude.{◌≡◌, ◌<◌, ◌≤◌, None, IfOk};
+ghost use Rattle.std.specs.Prelude.{◌≡◌, ◌<◌, ◌≤◌, None, IfOk, false};
+ghost use Rattle.resp_value.specs.declared.value.Proto.TheVariants.{Three};
 ghost use Rattle.edge_links.specs.Counts.{Counted};
 ghost use Rattle.shared_client.specs.Setups.{setup_of};
 ghost use Rattle.redis_program.specs.declared.status.Status.TheVariants as status;
@@ -11,11 +12,12 @@ use super::status::Status;
 use command_line::{Caching as AskedCaching, ScriptSettings};
 use edge_lines::SinkFailed;
 use edge_links::{Net, Sink, Source};
-use resp_value::{NoMemory, Octets, Proto, Words};
+use resp_value::{NoMemory, Octets, Words};
 use script_program::{ScriptEnd, WrittenScript, play_and_write};
 use script_run::SessionEnd;
 use shared_cache::{Caching, ClientMode, Shape};
 use shared_client::ClientSetup;
+use socket_links::Wakeable;
 use std::alloc::Global;
 use std::sync::Wait;
 use std::thread::Threads;
@@ -48,8 +50,12 @@ fn client_setup(alloc: Global, settings: &ScriptSettings) -> Result<ClientSetup,
 {
     Ok(ClientSetup {
         mode: ClientMode {
-            shape: Shape::Single,
-            proto: Proto::Three,
+            shape: if settings.redirect {
+                Shape::Pair
+            } else {
+                Shape::Single
+            },
+            proto: settings.resp,
             caching: caching_by(alloc, settings)?,
             noloop: settings.noloop,
         },
@@ -58,7 +64,7 @@ fn client_setup(alloc: Global, settings: &ScriptSettings) -> Result<ClientSetup,
     })
 }
 
-/// Reads the script on the input, plays it over a link that the net dials, and writes the answers
+/// Reads the script on the input, plays it over links that the net dials, and writes the answers
 /// in the order of the lines. The last line of what is written says how the run ended, unless each
 /// line was answered or the sink failed.
 pub fn run_script<R: Threads + Wait + Sync, S: Source, K: Sink, N: Net>(
@@ -69,6 +75,9 @@ pub fn run_script<R: Threads + Wait + Sync, S: Source, K: Sink, N: Net>(
     output: &mut K,
     net: &mut N,
 ) -> Outcome<N>
+where
+    N::Link: Wakeable,
+    requires pushes { settings.now.redirect ≡ false → settings.now.resp ≡ Three }
     requires some { 0 < settings.now.capacity }
     requires most { settings.now.capacity ≤ 1000000 }
     ensures script { ScriptGives settings.now N.Link.left N.Link.contents N.Link.counts
@@ -107,7 +116,7 @@ fn status_of(end: Result<ScriptEnd, SinkFailed>) -> Status
 {
     match end {
         Ok(ScriptEnd::Played(SessionEnd::Done)) => Status::Done,
-        Ok(ScriptEnd::Played(SessionEnd::LinkEnded(_))) => Status::LinkEnded,
+        Ok(ScriptEnd::Played(SessionEnd::LinkEnded(..))) => Status::LinkEnded,
         Ok(ScriptEnd::Played(SessionEnd::HistoryFull)) => Status::HistoryFull,
         Ok(ScriptEnd::Played(SessionEnd::NoMemory)) => Status::NoMemory,
         Ok(ScriptEnd::Played(SessionEnd::Worn)) => Status::Worn,

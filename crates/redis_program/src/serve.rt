@@ -13,12 +13,14 @@ use command_line::ServeSettings;
 use edge_lines::SinkFailed;
 use edge_links::{Clock, Net, Sink};
 use serve_run::{ServeEnd, WrittenRun, serve_and_write};
+use socket_links::Wakeable;
 use std::alloc::Global;
 use std::sync::Wait;
 use std::thread::Threads;
 
-/// Serves what connects at the port, and then writes a line for each connection. The last line of
-/// what is written says how the run ended, unless no more came or the sink failed.
+/// Serves what connects at the port, and then writes a line for each connection, or without a limit
+/// of them for each way to end. The last line of what is written says how the run ended, unless no
+/// more came or the sink failed.
 pub fn run_serve<R: Threads + Wait + Eprint + Sync, K: Sink, N: Net, C: Clock + Sync>(
     rt: &R,
     alloc: Global,
@@ -27,6 +29,8 @@ pub fn run_serve<R: Threads + Wait + Eprint + Sync, K: Sink, N: Net, C: Clock + 
     net: &mut N,
     clock: &C,
 ) -> Outcome<N>
+where
+    N::Link: Wakeable,
     requires limits { AreValid (limits_of settings.limits) }
     requires workers { (1 ≤ settings.workers) × (settings.workers ≤ 64) }
     ensures serve { ServeGives settings N.Acceptor.counts N.Acceptor.left result.served

@@ -578,7 +578,10 @@ fn serves<R: Threads + Wait + Terminal + Sync>(
 #[test]
 fn a_server_reports_a_connection_that_quits(rt: HostRuntime) -> Result<(), Fail> {
     let alloc = rt.alloc();
-    let words = words_of(alloc, "serve --port 7000 --workers 1 --table-max=1")?;
+    let words = words_of(
+        alloc,
+        "serve --port 7000 --workers 1 --connections=9 --table-max=1",
+    )?;
     let mut net = net_with(alloc, "PING\r\nQUIT\r\nGET a\r\n")?;
     let mut source = MemorySource::new(Vec::new(alloc), Vec::new(alloc));
     let mut sink = MemorySink::new(alloc, 1000, Vec::new(alloc))?;
@@ -602,7 +605,7 @@ fn a_server_listens_at_its_port_and_writes_its_reports(rt: HostRuntime) -> Resul
     let (status, has_served) = serves(&rt, alloc, words, &mut source, &mut sink, &mut net);
     assert!(rt; status == Status::Done);
     assert!(rt; has_served);
-    let written = "connection 1 ended 1 requests 2\n";
+    let written = "ended 1 connections 1 requests 2\n";
     assert_eq!(rt; sink.bytes(), written.as_bytes());
     Ok(())
 }

@@ -8,11 +8,11 @@ use Rattle.std.proofs.lemmas.List.Elements.{All-nil, All-append}
 use Rattle.turn_lock.specs.Counts.{times}
 use Rattle.turn_lock.specs.History.{IsPrefix}
 use Rattle.turn_lock.specs.Seats.{Known, split_seat, joined_seat}
-use Rattle.seat_turns.specs.Own.{own_list, with_pasts, turns_of, IsWithin, Within, Grows}
-use Rattle.seat_turns.proofs.Growing.{grows_then}
-use Rattle.seat_turns.proofs.Owning.{own_joined, pasts_begins, pasts_within, within_append}
-use Rattle.seat_turns.proofs.Owning.{within_begins, total-append}
-use Rattle.seat_turns.proofs.Turning.{begins_trans}
+use Rattle.turn_lock.specs.Own.{own_list, with_pasts, turns_of, IsWithin, Within, Grows}
+use Rattle.turn_lock.proofs.Growing.{grows_then}
+use Rattle.turn_lock.proofs.Owning.{own_joined, pasts_begins, pasts_within, within_append}
+use Rattle.turn_lock.proofs.Owning.{within_begins, total-append}
+use Rattle.turn_lock.proofs.Turning.{begins_trans}
 use Rattle.shared_cache.specs.declared.log.ClientCall.TheVariants as call
 use Rattle.shared_cache.specs.declared.log.ClientRefusal.{ClientRefusal}
 use Rattle.shared_cache.specs.declared.log.ClientRefusal.TheVariants as refusal

@@ -4,8 +4,8 @@ use Rattle.std.proofs.Common.{None, Ok, Err}
 use Rattle.std.specs.Prelude.{Option, Result, OnOk, codes}
 use Rattle.atomic_table.specs.Seated.{TableId}
 use Rattle.turn_lock.specs.Seats.{first_seat}
-use Rattle.seat_turns.specs.Own.{own_list, with_pasts, turns_of}
-use Rattle.seat_turns.proofs.Growing.{grows_then}
+use Rattle.turn_lock.specs.Own.{own_list, with_pasts, turns_of}
+use Rattle.turn_lock.proofs.Growing.{grows_then}
 use Rattle.resp_value.specs.Tree.{Tree}
 use Rattle.resp_value.specs.declared.octets.Octets.{Octets}
 use Rattle.resp_value.specs.declared.value.Value.{Value}
@@ -45,13 +45,13 @@ by_two xs ys a b c h i = record {
 
 -- ---- the turns of one fetch, and of the greeting
 
-pub taken : (o : Option Octets) (bytes : Octets) (a b : Place) → o ≡ Some bytes → TakesOut o a b
-    → GrowsBy (entry.TakeOut Main most ∷ []) a b
+pub taken : (o : Option Octets) (bytes : Octets) (a b : Place) → o ≡ Some bytes
+    → TakesOut Main o a b → GrowsBy (entry.TakeOut Main most ∷ []) a b
 taken (Some x) bytes a b is h =
     by_one (call.TakeOut Main most) (reply.Bytes x) (entry.TakeOut Main most) a b h
 taken None bytes a b is h = absurd (let no : ⊥ = cc in no)
 
-pub got : (v : Value) (a b : Place) → Gets v a b → GrowsBy (entry.Got Main v ∷ []) a b
+pub got : (v : Value) (a b : Place) → Gets Main v a b → GrowsBy (entry.Got Main v ∷ []) a b
 got v a b h = by_one (call.Got Main v) reply.Noted (entry.Got Main v) a b h
 
 pub handed : (n : ℕ) (o : Option Value) (v : Value) (a b : Place) → o ≡ Some v → Polls n o a b
@@ -68,11 +68,11 @@ answers_it n v a b c d out in_ poll =
     (by_two (entry.TakeOut Main most ∷ []) (entry.Got Main v ∷ []) a b c out in_) poll
 
 pub greets : (rows : List (Tree × Tree)) (text : List ℕ) (a b c d : Place) → rows ≡ []
-    → text ≡ codes "OK" → GrowsBy (entry.TakeOut Main most ∷ []) a b → Gets (Map rows) b c
-    → Gets (Simple text) c d → GrowsBy greeting a d
+    → text ≡ codes "OK" → GrowsBy (entry.TakeOut Main most ∷ []) a b → Gets Main (Map rows) b c
+    → Gets Main (Simple text) c d → GrowsBy greeting a d
 greets rows text a b c d none ok out hello tracked =
-    let one = got (Map []) b c (subst (λ r. Gets (Map r) b c) none hello) in
-    let two = got (Simple (codes "OK")) c d (subst (λ t. Gets (Simple t) c d) ok tracked) in
+    let one = got (Map []) b c (subst (λ r. Gets Main (Map r) b c) none hello) in
+    let two = got (Simple (codes "OK")) c d (subst (λ t. Gets Main (Simple t) c d) ok tracked) in
     by_two (entry.Got Main (Map []) ∷ entry.TakeOut Main most ∷ [])
     (entry.Got Main (Simple (codes "OK")) ∷ []) a c d
     (by_two (entry.TakeOut Main most ∷ []) (entry.Got Main (Map []) ∷ []) a b c out one) two

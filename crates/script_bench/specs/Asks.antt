@@ -3,7 +3,7 @@ use Rattle.std.specs.Prelude.{◌≡◌, ◌≤◌, ◌<◌, ◌+◌, ◌*◌, �
 use Rattle.std.specs.Prelude.{◌∷◌, ◌++◌, codes, length, min}
 use Rattle.std.specs.List.{All}
 use Rattle.turn_lock.specs.Counts.{total}
-use Rattle.seat_turns.specs.Own.{Grows}
+use Rattle.turn_lock.specs.Own.{Grows}
 use Rattle.shared_cache.specs.declared.log.ClientCall.TheVariants as call
 use Rattle.shared_cache.specs.declared.log.ClientReply.{ClientReply}
 use Rattle.shared_cache.specs.declared.log.ClientReply.TheVariants as reply

@@ -2,7 +2,7 @@
 use Rattle.std.specs.Prelude.{◌≡◌, ℕ, zero, suc, List, [], ◌∷◌, ◌++◌, codes, map, Some, false}
 use Rattle.atomic_table.specs.Seated.{TableId}
 use Rattle.turn_lock.specs.declared.rule.TheConstants.{ALL_PARTS}
-use Rattle.seat_turns.specs.Own.{turns_of, IsWithin, Grows}
+use Rattle.turn_lock.specs.Own.{turns_of, IsWithin, Grows}
 use Rattle.resp_value.specs.declared.value.Value.{Value}
 use Rattle.resp_value.specs.declared.value.Value.TheVariants.{Simple, Blob, Map}
 use Rattle.resp_value.specs.declared.value.Proto.TheVariants.{Three}

@@ -2,15 +2,15 @@
 ghost use Rattle.std.specs.Prelude.{◌≡◌, ◌≤◌, ◌<◌, ◌*◌, ◌-◌, ℕ, max, IfOk, OnOk};
 ghost use Rattle.std.specs.Thread.{IsSync};
 ghost use Rattle.turn_lock.specs.Seats.{split_seat};
-ghost use Rattle.seat_turns.specs.Own.{IsWithin};
-ghost use Rattle.shared_cache.specs.ClientFields.{IsOneLink};
+ghost use Rattle.turn_lock.specs.Own.{IsWithin};
+ghost use Rattle.shared_cache.specs.ClientFields.{IsClientMode};
 ghost use Rattle.script_bench.specs.Asks.{key_of, query_for, spread_of, IsKeyQuery, Asks};
 ghost use Rattle.script_bench.specs.Filled.{content_is, client_for, GrowsBy, greeting};
 ghost use Rattle.script_bench.specs.Filled.{answered, fetched, IsReady};
 
 use command_words::Query;
 use resp_value::{NoMemory, Octets, Pairs, Proto, Value, Words};
-use shared_cache::{Caching, ClientMode, Shape};
+use shared_cache::{Caching, ClientMode, Shape, Wire};
 use shared_client::{Asked, ClientSetup, SharedClient, ask, got, open, poll, take_out};
 use std::alloc::Global;
 use std::sync::Wait;
@@ -82,10 +82,10 @@ fn answer<R: Wait>(
     requires within { IsWithin seat.old }
     ensures { OnOk result (GrowsBy (answered number value) seat.old seat.new) }
 {
-    let Ok(Some(_)) = take_out(rt, lock, seat) else {
+    let Ok(Some(_)) = take_out(rt, lock, seat, Wire::Main) else {
         return Err(Unready);
     };
-    let Ok(()) = got(rt, lock, seat, value) else {
+    let Ok(()) = got(rt, lock, seat, Wire::Main, value) else {
         return Err(Unready);
     };
     let Ok(Some(_)) = poll(rt, lock, seat, number) else {
@@ -127,13 +127,13 @@ fn greet<R: Wait>(
     ensures { OnOk result (GrowsBy greeting seat.old seat.new) }
 {
     let accepted = Octets::from_slice(alloc, b"OK")?;
-    let Ok(Some(_)) = take_out(rt, lock, seat) else {
+    let Ok(Some(_)) = take_out(rt, lock, seat, Wire::Main) else {
         return Err(Unready);
     };
-    let Ok(()) = got(rt, lock, seat, Value::Map(Pairs::new(alloc))) else {
+    let Ok(()) = got(rt, lock, seat, Wire::Main, Value::Map(Pairs::new(alloc))) else {
         return Err(Unready);
     };
-    match got(rt, lock, seat, Value::Simple(accepted)) {
+    match got(rt, lock, seat, Wire::Main, Value::Simple(accepted)) {
         Ok(()) => Ok(()),
         Err(_) => Err(Unready),
     }
@@ -141,7 +141,7 @@ fn greet<R: Wait>(
 
 fn setup(keys: u64) -> ClientSetup
     ensures setup { result ≡ client_for keys }
-    ensures served { IsOneLink result.mode }
+    ensures served { IsClientMode result.mode }
 {
     ClientSetup {
         mode: ClientMode {

@@ -1,5 +1,5 @@
 //! Hits of threads on one client under its lock, beside look-ups in std's map under a mutex:
-//! `script_bench 1000 100000` holds 1,000 keys and asks 100,000 times, by one thread and by four.
+//! `script_bench 1000 100000` holds 1,000 keys and asks 100,000 times, by 1, 4 and 8 threads.
 //! How many were answered from the cache goes to the output, what each took to standard error.
 #![tactic(auto)]
 
@@ -97,7 +97,7 @@ fn main(rt: HostRuntime) -> io::Result<()> {
         println!(rt; "usage: script_bench KEYS TIMES")?;
         return Ok(());
     }
-    for threads in [1, 4] {
+    for threads in [1, 4, 8] {
         match measure(&rt, rt.alloc(), keys, times, threads) {
             Ok(()) => {}
             Err(Fault::System(error)) => return Err(error),

@@ -1,6 +1,6 @@
 -- What is written of a script's run.
-use Rattle.std.proofs.Common.{arith, ◌≡◌, ℕ, List, ◌++◌, Ok, Result, refl, append-nil}
-use Rattle.std.specs.Prelude.{IfSome}
+use Rattle.std.proofs.Common.{arith, ◌≡◌, ℕ, List, ◌++◌, Ok, Result, refl, append-nil, Some, None}
+use Rattle.std.specs.Prelude.{IfSome, option_map}
 use Rattle.std.specs.declared.option.Option.{Option}
 use Rattle.resp_value.proofs.Prefixes.{prefix_by}
 use Rattle.edge_links.specs.declared.counts.Counts.{Counts}
@@ -15,6 +15,9 @@ use Rattle.client_link.specs.Pumps.{end_number}
 use Rattle.script_text.specs.declared.script_line.ScriptLine.{ScriptLine}
 use Rattle.script_run.specs.declared.answer.Answer.{Answer}
 use Rattle.script_run.specs.declared.reports.SessionEnd.{SessionEnd}
+use Rattle.script_run.specs.declared.session.PumpedLink.{PumpedLink}
+use Rattle.script_run.specs.Session.{LinkEnd}
+use Rattle.script_run.specs.Ends.{side_end, side_pump, SideCounts}
 use Rattle.script_run.specs.Reports.{end_text, ends_of, no_tally, session_end, tally_after}
 use Rattle.script_run.specs.Reports.{text_after}
 use Rattle.script_program.specs.declared.run.ScriptEnd.{ScriptEnd}
@@ -29,11 +32,13 @@ text_cut e text old new a =
     first_longer old new text (text ++ end_text e)
     (prefix_by text (text ++ end_text e) (end_text e) refl) a
 
-pub reported : (lines : List ScriptLine) (answers : List (List Answer)) (pump : PumpEnd)
-    (e : SessionEnd) (text : List ℕ) → text ≡ text_after no_tally 1 (ends_of lines answers)
-    → e ≡ session_end (tally_after no_tally (ends_of lines answers)) (end_number pump)
-    → Reports lines answers pump e text
-reported lines answers pump x text t e = grind (arith, append-nil)
+pub reported : (lines : List ScriptLine) (answers : List (List Answer)) (main : PumpEnd)
+    (side : Option PumpEnd) (e : SessionEnd) (text : List ℕ)
+    → text ≡ text_after no_tally 1 (ends_of lines answers)
+    → e ≡ session_end (tally_after no_tally (ends_of lines answers)) (end_number main)
+    (option_map end_number side)
+    → Reports lines answers main side e text
+reported lines answers main side x text t e = grind (arith, append-nil)
 
 pub played_writes : {L : Type 0} (left contents : L → Option (List ℕ)) (counts : L → Counts)
     (client : Setup) (lines : List ScriptLine) (input : Option (List ℕ))
@@ -45,3 +50,12 @@ pub played_writes : {L : Type 0} (left contents : L → Option (List ℕ)) (coun
     → WritesScript left contents counts client input session answer in0 in1 net0 net1 out0 out1
 played_writes left contents counts client lines input session answer in0 in1 net0 net1 out0 out1
     w known counted net = grind arith
+
+-- Side's pump is the same as its link's
+pub same_pump : {L : Type 0} (left contents : L → Option (List ℕ)) (counts : L → Counts)
+    (o : Option L) (p : Option (PumpedLink L)) → SideCounts counts o p
+    → side_pump p ≡ option_map (λ (l : LinkEnd). l.end) (side_end left contents counts o p)
+same_pump left contents counts None None h = refl
+same_pump left contents counts (Some l) (Some p) h = refl
+same_pump left contents counts None (Some p) h = absurd h
+same_pump left contents counts (Some l) None h = absurd h

@@ -1,3 +1,4 @@
+pub mod Complete
 pub mod Pushed
 pub mod Scripts
 pub mod Written

@@ -1,7 +1,7 @@
 -- What the run of a script comes to, what it writes, and what its end rests on.
-use Rattle.std.specs.Prelude.{◌≡◌, ◌≤◌, ◌++◌, ◌⊎◌, ⊤, ℕ, List, [], codes, Option, Some, None}
+use Rattle.std.specs.Prelude.{◌≡◌, ◌++◌, ◌⊎◌, ⊤, ℕ, List, [], codes, Option, Some, None}
 use Rattle.std.specs.Prelude.{Result, Ok, Err}
-use Rattle.std.specs.Prelude.{IfSome, true}
+use Rattle.std.specs.Prelude.{IfSome, is_some, option_map}
 use Rattle.std.specs.Fmt.{decimal}
 use Rattle.std.specs.Io.KnownBytes.{Appends}
 use Rattle.resp_value.specs.Lists.{IsPrefix}
@@ -10,10 +10,7 @@ use Rattle.edge_links.specs.Counts.{Counted, FaultCounted, nought}
 use Rattle.edge_lines.specs.declared.lines.SinkFailed.{SinkFailed}
 use Rattle.edge_lines.specs.Streams.{AppendsFirst}
 use Rattle.edge_lines.specs.TextLines.{text_lines}
-use Rattle.turn_lock.specs.declared.rule.TheConstants.{LAST_TICKET}
 use Rattle.shared_cache.specs.Held.{Setup}
-use Rattle.shared_cache.specs.Steps.{is_log_full}
-use Rattle.shared_cache.specs.declared.log.LogEntry.{LogEntry}
 use Rattle.client_link.specs.declared.pump_end.PumpEnd.{PumpEnd}
 use Rattle.client_link.specs.Pumps.{EndCounts, end_number}
 use Rattle.script_text.specs.declared.script_line.ScriptLine.{ScriptLine}
@@ -23,7 +20,9 @@ use Rattle.script_run.specs.declared.reports.SessionEnd.{SessionEnd}
 use Rattle.script_run.specs.declared.reports.SessionEnd.TheVariants as ended
 use Rattle.script_run.specs.Reports.{end_text, ends_of, no_tally, session_end, tally_after}
 use Rattle.script_run.specs.Reports.{text_after}
-use Rattle.script_run.specs.Session.{Session}
+use Rattle.script_run.specs.Complete.{EndShows}
+use Rattle.script_run.specs.Session.{Session, is_pair}
+use Rattle.script_run.specs.Ends.{link_end, side_end, side_pump, SideCounts}
 use Rattle.script_program.specs.declared.run.ScriptEnd.{ScriptEnd}
 use Rattle.script_program.specs.declared.run.ScriptEnd.TheVariants as end
 use Rattle.script_program.specs.declared.run.ScriptSession.{ScriptSession}
@@ -50,35 +49,35 @@ EndWrites (Err failed) e text old new = AppendsFirst old new (text ++ end_line e
 
 -- The text has the answers to the lines in their order, and the session ends as they came out; or
 -- memory for the text ran out after some lines.
-abbrev pub Reports : List ScriptLine → List (List Answer) → PumpEnd → SessionEnd → List ℕ → Type 0
-Reports lines answers pump ended.NoMemory text =
+abbrev pub Reports : List ScriptLine → List (List Answer) → PumpEnd → Option PumpEnd → SessionEnd
+    → List ℕ → Type 0
+Reports lines answers main side ended.NoMemory text =
     (first : List LineEnd) × IsPrefix first (ends_of lines answers)
     × (text ≡ text_after no_tally 1 first)
-Reports lines answers pump e text =
+Reports lines answers main side e text =
     (text ≡ text_after no_tally 1 (ends_of lines answers))
-    × (e ≡ session_end (tally_after no_tally (ends_of lines answers)) (end_number pump))
+    × (e ≡ session_end (tally_after no_tally (ends_of lines answers)) (end_number main)
+    (option_map end_number side))
 
--- a full log ends a session only where the log is full, a worn lock where no ticket is left, and
--- the link's end where the pump ended by one of 1 to 4
-abbrev pub EndShows : SessionEnd → Setup → List LogEntry → ℕ → Type 0
-EndShows ended.HistoryFull s log tickets = is_log_full s log ≡ true
-EndShows ended.Worn s log tickets = LAST_TICKET ≤ tickets
-EndShows ended.Done s log tickets = ⊤
-EndShows (ended.LinkEnded number) s log tickets = (1 ≤ number) × (number ≤ 4)
-EndShows ended.NoMemory s log tickets = ⊤
-
--- These lines were played over a link that was new, and the text tells of it.
+-- These lines were played over links that were new, and the text tells of it. A Side is there where
+-- the client has one.
 pub record PlaysScript {L : Type 0} (left contents : L → Option (List ℕ)) (counts : L → Counts)
     (client : Setup) (lines : List ScriptLine) (s : ScriptSession L) (e : SessionEnd)
     (text : List ℕ) : Type 0 where
-  pub link : L
-  pub fresh : counts link ≡ nought
+  pub main : L
+  pub side : Option L
+  pub fresh : counts main ≡ nought
+  pub side_fresh : IfSome side (λ l. counts l ≡ nought)
+  pub side_there : is_some side ≡ is_pair client.mode.shape
   pub answers : List (List Answer)
-  pub session : Session client lines answers s.pump (left link) (left s.link) (contents link)
-      (contents s.link) s.client.state.past s.client.tickets
-  pub counted : EndCounts s.pump (counts link) (counts s.link)
-  pub reported : Reports lines answers s.pump e text
-  pub shown : EndShows e client s.client.state.past s.client.tickets
+  pub session : Session client lines answers (link_end left contents counts main s.main)
+      (side_end left contents counts side s.side) s.client.state.past s.client.tickets
+  pub counted : EndCounts s.main.end (counts main) (counts s.main.link)
+  pub side_counted : SideCounts counts side s.side
+  pub reported : Reports lines answers s.main.end (side_pump s.side) e text
+  -- each line has its value, or this is why not
+  pub shown : EndShows e client (ends_of lines answers) (link_end left contents counts main s.main)
+      (side_end left contents counts side s.side) s.client.state.past s.client.tickets
 
 -- an end before anything is played
 abbrev pub NotPlayed : ScriptEnd → Type 0

@@ -1,22 +1,25 @@
 //! The run of a script with what it writes.
-ghost use Rattle.std.specs.Prelude.{◌≡◌, ◌<◌, ◌≤◌, [], None, OnErr};
+ghost use Rattle.std.specs.Prelude.{◌≡◌, ◌<◌, ◌≤◌, [], None, IfOk, IfSome, OnErr, OnOk, is_some};
 ghost use Rattle.std.specs.List.{All};
-ghost use Rattle.edge_links.specs.Counts.{Counted, nought};
+ghost use Rattle.edge_links.specs.Counts.{Counted, FaultCounted, nought};
 ghost use Rattle.script_text.specs.Scripts.{IsValidLine};
-ghost use Rattle.shared_cache.specs.ClientFields.{IsOneLink};
+ghost use Rattle.shared_cache.specs.ClientFields.{IsClientMode};
 ghost use Rattle.shared_client.specs.Setups.{setup_of};
+ghost use Rattle.script_run.specs.Session.{is_pair};
 ghost use Rattle.script_program.specs.declared.run.ScriptEnd.TheVariants as ended;
+ghost use Rattle.script_program.specs.Complete.{Completes};
 ghost use Rattle.script_program.specs.Written.{end_line, EndWrites, NoneWritten};
 ghost use Rattle.script_program.specs.Written.{NotPlayed, SessionWrites, WritesScript};
 
 use super::read::{ScriptRead, read_script};
-use client_link::PumpEnd;
 use edge_lines::{SinkFailed, write_all};
 use edge_links::{Link, Net, NetFailed, Sink, Source};
 use resp_value::NoMemory;
-use script_run::{Played, SessionEnd, play_script, report};
+use script_run::{Played, PumpedLink, SessionEnd, play_script, report};
 use script_text::ScriptLine;
+use shared_cache::Shape;
 use shared_client::{ClientSetup, SharedClient};
+use socket_links::Wakeable;
 use std::alloc::Global;
 use std::sync::Wait;
 use std::thread::Threads;
@@ -40,9 +43,8 @@ pub enum ScriptEnd {
 pub struct ScriptSession<L> {
     /// The client, with its log.
     pub client: Closed<SharedClient>,
-    pub link: L,
-    /// Why the link's pump has ended.
-    pub pump: PumpEnd,
+    pub main: PumpedLink<L>,
+    pub side: Option<PumpedLink<L>>,
 }
 
 /// What a script came to that wrote of it.
@@ -52,9 +54,9 @@ pub struct WrittenScript<L> {
     pub end: Result<ScriptEnd, SinkFailed>,
 }
 
-/// Reads the script of the source, plays it on a client of that setup over a link that the net
-/// dials, and writes the answers and then the last line. Nothing is dialled unless all lines are in
-/// the grammar.
+/// Reads the script of the source, plays it on a client of that setup over links that the net
+/// dials, Side first where there is one, and writes the answers and then the last line. Nothing is
+/// dialled unless all lines are in the grammar.
 pub fn play_and_write<R: Threads + Wait + Sync, S: Source, K: Sink, N: Net>(
     rt: &R,
     alloc: Global,
@@ -65,7 +67,9 @@ pub fn play_and_write<R: Threads + Wait + Sync, S: Source, K: Sink, N: Net>(
     output: &mut K,
     net: &mut N,
 ) -> WrittenScript<N::Link>
-    requires mode { IsOneLink setup.mode }
+where
+    N::Link: Wakeable,
+    requires mode { IsClientMode setup.mode }
     requires capacity { (0 < setup.capacity) × (setup.capacity ≤ 1000000) }
     requires log_max { 0 < setup.log_max }
     ensures writes { WritesScript N.Link.left N.Link.contents N.Link.counts (setup_of setup)
@@ -73,6 +77,11 @@ pub fn play_and_write<R: Threads + Wait + Sync, S: Source, K: Sink, N: Net>(
         (N.counts net.old) (N.counts net.new) (K.contents output.old) (K.contents output.new) }
     ensures write { OnErr result.end
         (Counted (K.counts output.old).faults (K.counts output.new).faults) }
+    ensures complete { ¬ Counted (S.counts input.old).faults (S.counts input.new).faults
+        → ¬ Counted (N.counts net.old).faults (N.counts net.new).faults
+        → ¬ Counted (K.counts output.old).faults (K.counts output.new).faults
+        → Completes N.Link.left N.Link.contents N.Link.counts (setup_of setup)
+        (S.left input.old) result.session result.end }
 {
     let lines = match read_script(alloc, input) {
         ScriptRead::Lines(lines) => lines,
@@ -80,10 +89,38 @@ pub fn play_and_write<R: Threads + Wait + Sync, S: Source, K: Sink, N: Net>(
         ScriptRead::Failed => return unplayed(alloc, ScriptEnd::ReadFault, output),
         ScriptRead::NoMemory => return unplayed(alloc, ScriptEnd::NoMemory, output),
     };
-    match net.dial(host, port) {
-        Ok(link) => play_over(rt, alloc, setup, lines, link, output),
+    match dial_all(net, host, port, setup.mode.shape) {
+        Ok(links) => play_over(rt, alloc, setup, lines, links, output),
         Err(NetFailed) => unplayed(alloc, ScriptEnd::NetFault, output),
     }
+}
+
+// The links of a session.
+#[derive(Drop)]
+struct Links<L> {
+    main: L,
+    side: Option<L>,
+}
+
+// Dials a link for each that a client of this shape has, Side first.
+fn dial_all<N: Net>(
+    net: &mut N,
+    host: &str,
+    port: u16,
+    shape: Shape,
+) -> Result<Links<N::Link>, NetFailed>
+    ensures side { IfOk result (λ l. is_some l.side ≡ is_pair shape) }
+    ensures fresh { IfOk result (λ l. N.Link.counts l.main ≡ nought) }
+    ensures side_fresh { IfOk result (λ l. IfSome l.side (λ k. N.Link.counts k ≡ nought)) }
+    ensures same { OnOk result (N.counts net.new ≡ N.counts net.old) }
+    ensures counts { OnErr result (FaultCounted (N.counts net.old) (N.counts net.new)) }
+{
+    let side = match shape {
+        Shape::Single => None,
+        Shape::Pair => Some(net.dial(host, port)?),
+    };
+    let main = net.dial(host, port)?;
+    Ok(Links { main, side })
 }
 
 // Writes the last line of a run that played nothing.
@@ -117,43 +154,53 @@ fn write_last<K: Sink>(end: ScriptEnd, line: &[u8], output: &mut K) -> Result<Sc
     Ok(end)
 }
 
-// Plays the lines over the link, and writes the answers and the last line.
-fn play_over<R: Threads + Wait + Sync, K: Sink, L: Link + Send + Drop>(
+// Plays the lines over the links, and writes the answers and the last line.
+fn play_over<R: Threads + Wait + Sync, K: Sink, L: Link + Wakeable + Send + Drop>(
     rt: &R,
     alloc: Global,
     setup: ClientSetup,
     lines: Vec<ScriptLine>,
-    link: L,
+    links: Links<L>,
     output: &mut K,
 ) -> WrittenScript<L>
-    requires mode { IsOneLink setup.mode }
+    requires mode { IsClientMode setup.mode }
     requires capacity { (0 < setup.capacity) × (setup.capacity ≤ 1000000) }
     requires log_max { 0 < setup.log_max }
     requires lines { All IsValidLine lines.items }
-    requires fresh { L.counts link ≡ nought }
+    requires side { is_some links.side ≡ is_pair setup.mode.shape }
+    requires fresh { L.counts links.main ≡ nought }
+    requires side_fresh { IfSome links.side (λ l. L.counts l ≡ nought) }
     ensures writes { SessionWrites L.left L.contents L.counts (setup_of setup) lines.items
         result.session result.end (K.contents output.old) (K.contents output.new) }
     ensures write { OnErr result.end
         (Counted (K.counts output.old).faults (K.counts output.new).faults) }
 {
-    let Ok(played) = play_script(rt, alloc, setup, lines, link) else {
+    let Links { main, side } = links;
+    let Ok(played) = play_script(rt, alloc, setup, lines, main, side) else {
         return unplayed(alloc, ScriptEnd::NoMemory, output);
     };
+    let side_end = played.side_end();
     let Played {
         client,
-        link,
-        pump,
+        main,
+        side,
         mut answers,
         lines,
     } = played;
     let mut text = Vec::new(alloc);
-    let end = match report(lines.as_slice(), &mut answers, pump, &mut text) {
+    let end = match report(
+        lines.as_slice(),
+        &mut answers,
+        main.end,
+        side_end,
+        &mut text,
+    ) {
         Ok(end) => end,
         Err(NoMemory) => SessionEnd::NoMemory,
     };
     let end = write_report(text.as_slice(), end, output);
     WrittenScript {
-        session: Some(ScriptSession { client, link, pump }),
+        session: Some(ScriptSession { client, main, side }),
         end,
     }
 }

@@ -41,5 +41,5 @@ none_down (first ∷ lines) threads up (suc k) d lt =
     (λ h. up (down_rest (first.thread - 1) threads h)) k d (omega (arith, lt))
 
 pub lines_are_answered : LinesAreAnswered
-lines_are_answered s lines answers end left0 left1 link0 link1 log tickets session up =
+lines_are_answered s lines answers main side log tickets session up =
     none_down lines answers (λ h. up (session.down h))

@@ -10,13 +10,14 @@ use Rattle.resp_value.proofs.value.Pairs.TheLaws.TheKnot.{crosses}
 use Rattle.turn_lock.proofs.lock.Seat.TheSendSync as seat
 use Rattle.turn_lock.proofs.lock.TurnLock.TheSendSync as lock
 use Rattle.script_text.proofs.script_line.ScriptLine.TheSendSync as line
-use Rattle.client_link.proofs.bell.Bell.TheSendSync as bell
+use Rattle.client_link.proofs.waiters.Waiters.TheSendSync as waiters
 use Rattle.client_link.proofs.pump_end.PumpEnd.TheSendSync as ended
 use Rattle.shared_client.proofs.Crossing.{shared_send}
 use Rattle.script_run.specs.contracts.answer.Answer as answer
 use Rattle.script_run.specs.contracts.callers.Answers as answers
 use Rattle.script_run.specs.contracts.callers.Board as board
 use Rattle.script_run.specs.contracts.callers.Task as task
+use Rattle.script_run.proofs.session.PumpedLink.TheSendSync as pumped
 use Rattle.script_run.specs.contracts.callers.Answers.TheInside as answers_parts
 
 pub ruleset vectors = (vec.the_send, vec.the_sync, heap.the_send, heap.the_sync, frees)
@@ -37,8 +38,8 @@ answers_send = view_send _ _ _ _ _ answers_inside
 pub board_sync : IsSync board.the_row
 board_sync =
     declared_sync board.the_type (
-      search (sendable, bell.the_sync) depth 20,
-      (search (sendable, vectors, line.the_sync) depth 20, tt),
+      search (sendable, waiters.the_sync) depth 20,
+      (search sendable depth 20, (search (sendable, vectors, line.the_sync) depth 20, tt)),
     )
 
 pub task_send : IsSend task.the_row
@@ -59,9 +60,11 @@ pub ruleset crossing = (
   vectors,
   shared_send,
   answers_send,
+  board_sync,
   seat.the_send,
   lock.the_sync,
   line.the_sync,
-  bell.the_sync,
+  waiters.the_sync,
   ended.the_send,
+  pumped.the_send,
 )

@@ -1,5 +1,6 @@
 pub mod Answering
 pub mod Closing
+pub mod Complete
 pub mod Crossing
 pub mod Lines
 pub mod Numbers

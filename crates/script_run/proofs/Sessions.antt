@@ -1,18 +1,18 @@
--- All turns of a session are those of its callers, of its pump and the last, and where a caller was
--- told that the link is down the pump had ended it.
-use Rattle.seat_turns.proofs.Owning.{total-append, own_all, pasts_length}
+-- All turns of a session are those of its callers, of its pumps and the last, and where a caller
+-- was told that Main is down a pump had ended a link.
+use Rattle.turn_lock.proofs.Owning.{total-append, own_all, pasts_length}
 use Rattle.std.proofs.Common.{◌≡◌, ◌≤◌, ◌<◌, ◌+◌, inl, inr, ℕ, suc, List, [], ◌∷◌, ◌++◌, Bool, true}
-use Rattle.std.proofs.Common.{false, cond, length, refl, ap, ◌∙◌, arith}
+use Rattle.std.proofs.Common.{false, cond, length, refl, ap, ◌∙◌, arith, Some, None}
 use Rattle.std.specs.Prelude.{Option, nat_lt, ◌&&◌, ◌==◌, ◌⊎◌}
 use Rattle.std.specs.List.{All}
 use Rattle.std.proofs.lemmas.Bool.Decides.{nat_tests}
 use Rattle.std.proofs.lemmas.List.Elements.{All-head, All-nil, All-tail}
 use Rattle.turn_lock.specs.Counts.{times, total}
 use Rattle.turn_lock.specs.History.{entries, IsPrefix, Legal}
-use Rattle.seat_turns.specs.Own.{with_pasts, past_of, turns_of}
-use Rattle.seat_turns.proofs.Turning.{begins_trans}
+use Rattle.turn_lock.specs.Own.{with_pasts, past_of, turns_of}
+use Rattle.turn_lock.proofs.Turning.{begins_trans}
 use Rattle.shared_cache.specs.declared.log.Wire.{Wire}
-use Rattle.shared_cache.specs.declared.log.Wire.TheVariants.{Main}
+use Rattle.shared_cache.specs.declared.log.Wire.TheVariants.{Main, Side}
 use Rattle.shared_cache.specs.declared.log.ClientMode.{ClientMode}
 use Rattle.shared_cache.specs.declared.log.LogEntry.{LogEntry}
 use Rattle.shared_cache.specs.declared.log.LogEntry.TheVariants as entry
@@ -27,19 +27,20 @@ use Rattle.shared_cache.specs.Log.{is_ended}
 use Rattle.shared_cache.specs.Steps.{ClientTurn, client_step}
 use Rattle.shared_client.specs.declared.logged.ClientSetup.{ClientSetup}
 use Rattle.shared_client.specs.Setups.{TurnStep, setup_of}
-use Rattle.shared_client.specs.Turns.{Place, Turn}
+use Rattle.shared_client.specs.Turns.{Place, Turn, setup_at}
 use Rattle.script_text.specs.declared.script_line.ScriptCall.{ScriptCall}
 use Rattle.script_text.specs.declared.script_line.ScriptCall.TheVariants.{Ask, Do}
 use Rattle.script_text.specs.declared.script_line.ScriptLine.{ScriptLine}
 use Rattle.script_text.specs.Scripts.{IsValidCall, IsValidLine}
 use Rattle.client_link.specs.declared.pump_end.PumpEnd.{PumpEnd}
-use Rattle.client_link.specs.Pumps.{IsWork}
+use Rattle.client_link.specs.declared.pump_end.PumpEnd.TheVariants as ended
+use Rattle.client_link.specs.Pumps.{IsWork, Finishes}
 use Rattle.script_run.specs.declared.answer.Answer.{Answer}
 use Rattle.script_run.specs.declared.answer.Answer.TheVariants.{Refused}
 use Rattle.script_run.specs.Lines.{call_for, Between, RefusedBy, Unplayed, NoAnswer, Came, AllCame}
 use Rattle.script_run.specs.Lines.{ThreadsCame, calls_of}
-use Rattle.script_run.specs.Session.{turns_in, IsDown, AnyDown, HasDown, EndsLink, PumpedBy}
-use Rattle.script_run.specs.Session.{ClosedBy}
+use Rattle.script_run.specs.Session.{turns_in, IsDown, AnyDown, HasDown, LinkEnd, EndsLink}
+use Rattle.script_run.specs.Session.{AnyEnds, PumpedBy, SidePumped, ClosedBy, SideClosed}
 use Rattle.script_run.proofs.Totals.{prefix_length, prefix_total, two_none, works_none}
 use Rattle.script_run.proofs.Numbers.{polls, all_fair, came_fair, threads_fair, Missed}
 use Rattle.script_run.proofs.Numbers.{refused_missed, missed_first, missed_last, none_missed}
@@ -122,16 +123,64 @@ module _ (n : ℕ) where
   not_early : (b : Bool) (m : ℕ) → n ≤ m → cond {A = ℕ} (b && nat_lt m n) 1 0 ≡ 0
   not_early b m le = grind (arith, nat_tests)
 
-  closing_none : (s : Setup) (ts : List Turn) (seen log : List LogEntry) (t : ℕ)
-      → n ≤ length seen → ClosedBy s ts seen log t → total f ts ≡ 0
-  closing_none s ts seen log t le h = grind (arith, prefix_length, not_early)
+  closing_none : (s : Setup) (w : Wire) (ts : List Turn) (seen log : List LogEntry) (t : ℕ)
+      → n ≤ length seen → ClosedBy s w ts seen log t → total f ts ≡ 0
+  closing_none s w ts seen log t le h = grind (arith, prefix_length, not_early)
 
-  work_none : (e : LogEntry) (past : List LogEntry) → IsWork (e, past) → f (e, past) ≡ 0
-  work_none e past h = grind arith
+  side_closing_none : (s : Setup) (l : Option LinkEnd) (ts : List Turn) (seen log : List LogEntry)
+      (t : ℕ) → n ≤ length seen → SideClosed s l ts seen log t → total f ts ≡ 0
+  side_closing_none s None ts seen log t le h = ap (total f) h
+  side_closing_none s (Some l) ts seen log t le h = closing_none s Side ts seen log t le h
 
-  none_but_works : (ending ts : List Turn) → ending ≡ [] → All IsWork ts
+  work_none : (w : Wire) (e : LogEntry) (past : List LogEntry) → IsWork w (e, past)
+      → f (e, past) ≡ 0
+  work_none w e past h = grind arith
+
+  none_but_works : (w : Wire) (ending ts : List Turn) → ending ≡ [] → All (IsWork w) ts
       → total f (ending ++ ts) ≡ 0
-  none_but_works ending ts e w = ap (λ z. total f (z ++ ts)) e ∙ works_none f work_none ts w
+  none_but_works w ending ts e h =
+      ap (λ z. total f (z ++ ts)) e ∙ works_none f w (work_none w) ts h
+
+  -- a pump that did not end its link has no end among its turns
+  ends_or_none : (w : Wire) (e : PumpEnd) (s : Setup) (ending ts : List Turn) (k : Place)
+      → Finishes w e s ending k → All (IsWork w) ts
+      → EndsLink e ⊎ (total f (ending ++ ts) ≡ 0)
+  ends_or_none w ended.Done s ending ts k h works =
+      inr (none_but_works w ending ts h.0 works)
+  ends_or_none w ended.Worn s ending ts k h works =
+      inr (none_but_works w ending ts h.0 works)
+  ends_or_none w e s ending ts k h works = inl tt
+
+  pump_none : (s : Setup) (w : Wire) (l : LinkEnd) (ts : List Turn) (log : List LogEntry) (t : ℕ)
+      → PumpedBy s w l ts log t → EndsLink l.end ⊎ (total f ts ≡ 0)
+  pump_none s w l ts log t p =
+      let k = p.pumps in
+      elim (ends_or_none w l.end (setup_at p.before) k.ending k.works.turns p.after k.finishes
+      k.works.work) [
+        | inl is ↦ inl is
+        | inr none ↦ inr (ap (total f) p.turns_are ∙ none)
+      ]
+
+  main_none : (s : Setup) (main : LinkEnd) (side : Option LinkEnd) (ts : List Turn)
+      (log : List LogEntry) (t : ℕ) → PumpedBy s Main main ts log t
+      → AnyEnds main side ⊎ (total f ts ≡ 0)
+  main_none s main side ts log t p = elim (pump_none s Main main ts log t p) [
+    | inl is ↦ inl (by_side side is)
+    | inr none ↦ inr none
+  ]
+    where
+      by_side : (o : Option LinkEnd) → EndsLink main.end → AnyEnds main o
+      by_side None is = is
+      by_side (Some side) is = inl is
+
+  side_none : (s : Setup) (main : LinkEnd) (side : Option LinkEnd) (ts : List Turn)
+      (log : List LogEntry) (t : ℕ) → SidePumped s side ts log t
+      → AnyEnds main side ⊎ (total f ts ≡ 0)
+  side_none s main None ts log t h = inr (ap (total f) h)
+  side_none s main (Some side) ts log t h = elim (pump_none s Side side ts log t h) [
+    | inl is ↦ inl (inr is)
+    | inr none ↦ inr none
+  ]
 
 -- ---- who was told that the link is down has seen its end
 
@@ -232,17 +281,56 @@ threads_down s lines ok thread (rs ∷ all) ts log t h d =
       ]
     ]
 
--- ---- so the pump had ended it
+-- ---- so a pump had ended one
 
-module _ (s : Setup) (lines : List ScriptLine) (answers : List (List Answer)) (end : PumpEnd)
-    (left0 left1 link0 link1 : Option (List ℕ)) (called pumped closing : List Turn)
+polls_no_work : (n : ℕ) (w : Wire) (e : LogEntry) (past : List LogEntry) → IsWork w (e, past)
+    → polls n (e, past) ≡ 0
+polls_no_work n w e past h = grind arith
+
+-- what a pump does at its end is no Poll
+ending_polls : (n : ℕ) (w : Wire) (e : PumpEnd) (s : Setup) (ending : List Turn) (k : Place)
+    → Finishes w e s ending k → total (polls n) ending ≡ 0
+ending_polls n w e s ending k h = grind (arith, polls)
+
+pump_polls : (n : ℕ) (s : Setup) (w : Wire) (l : LinkEnd) (ts : List Turn) (log : List LogEntry)
+    (t : ℕ) → PumpedBy s w l ts log t → total (polls n) ts ≡ 0
+pump_polls n s w l ts log t p =
+    let k = p.pumps in
+    let ending = ending_polls n w l.end (setup_at p.before) k.ending p.after k.finishes in
+    let works = works_none (polls n) w (polls_no_work n w) k.works.turns k.works.work in
+    ap (total (polls n)) p.turns_are ∙ total-append (polls n) k.ending k.works.turns
+    ∙ omega (arith, ending, works)
+
+side_polls : (n : ℕ) (s : Setup) (side : Option LinkEnd) (ts : List Turn) (log : List LogEntry)
+    (t : ℕ) → SidePumped s side ts log t → total (polls n) ts ≡ 0
+side_polls n s None ts log t h = ap (total (polls n)) h
+side_polls n s (Some side) ts log t h = pump_polls n s Side side ts log t h
+
+closing_polls : (n : ℕ) (s : Setup) (w : Wire) (ts : List Turn) (seen log : List LogEntry) (t : ℕ)
+    → ClosedBy s w ts seen log t → total (polls n) ts ≡ 0
+closing_polls n s w ts seen log t h = grind arith
+
+side_closing_polls : (n : ℕ) (s : Setup) (side : Option LinkEnd) (ts : List Turn)
+    (seen log : List LogEntry) (t : ℕ) → SideClosed s side ts seen log t
+    → total (polls n) ts ≡ 0
+side_closing_polls n s None ts seen log t h = ap (total (polls n)) h
+side_closing_polls n s (Some side) ts seen log t h = closing_polls n s Side ts seen log t h
+
+both_none : (f : Turn → ℕ) (xs ys : List Turn) → total f xs ≡ 0 → total f ys ≡ 0
+    → total f (xs ++ ys) ≡ 0
+both_none f xs ys a b = total-append f xs ys ∙ omega (arith, a, b)
+
+module _ (s : Setup) (lines : List ScriptLine) (answers : List (List Answer)) (main : LinkEnd)
+    (side : Option LinkEnd) (called pumped side_pumped closing side_closing : List Turn)
     (seen log : List LogEntry) (t : ℕ) (begins : IsPrefix seen log)
     (came : ThreadsCame s lines 1 answers called seen t)
-    (pumps : PumpedBy s end left0 left1 link0 link1 pumped log t)
-    (closes : ClosedBy s closing seen log t)
+    (pumps : PumpedBy s Main main pumped log t)
+    (side_pumps : SidePumped s side side_pumped log t)
+    (closes : ClosedBy s Main closing seen log t)
+    (side_closes : SideClosed s side side_closing seen log t)
     (all : (f : Turn → ℕ) → total f (turns_in log)
-    ≡ total f pumped + (total f closing + total f called)) where
-  saw_ends : SawEnd s seen → EndsLink end
+    ≡ total f (pumped ++ side_pumped) + (total f (side_closing ++ closing) + total f called)) where
+  saw_ends : SawEnd s seen → AnyEnds main side
   saw_ends saw =
       let n = length saw.seen in
       let f = early_end n in
@@ -252,16 +340,31 @@ module _ (s : Setup) (lines : List ScriptLine) (answers : List (List Answer)) (e
       grind (arith, prefix_total) in
       let le = prefix_length saw.seen seen saw.begins in
       let z = threads_none n s lines 1 answers called seen t came in
-      let y = closing_none n s closing seen log t le closes in
-      grind (arith, none_but_works)
-
-  none_polled : (n : ℕ) → total (polls n) pumped ≡ 0
-  none_polled n = grind (arith, polls, total-append, works_none)
+      let y = both_none f side_closing closing
+      (side_closing_none n s side side_closing seen log t le side_closes)
+      (closing_none n s Main closing seen log t le closes) in
+      elim (main_none n s main side pumped log t pumps) [
+        | inl is ↦ is
+        | inr a ↦ elim (side_none n s main side side_pumped log t side_pumps) [
+          | inl is ↦ is
+          | inr b ↦
+              let x = both_none f pumped side_pumped a b in
+              let w = all f in
+              absurd (let no : ⊥ = omega (arith, there, more, w, x, y, z) in no)
+        ]
+      ]
 
   pub none_missing : Missed s seen called → ⊥
-  none_missing m = none_missed s log called pumped closing all none_polled
-      (λ n. grind arith)
+  none_missing m = none_missed s log called (pumped ++ side_pumped) (side_closing ++ closing) all
+      (λ n. both_none (polls n) pumped side_pumped (pump_polls n s Main main pumped log t pumps)
+      (side_polls n s side side_pumped log t side_pumps))
+      (λ n. both_none (polls n) side_closing closing
+      (side_closing_polls n s side side_closing seen log t side_closes)
+      (closing_polls n s Main closing seen log t closes))
       (missed_last s seen log called called [] refl begins (λ n. omega arith) m)
 
-  pub down_ends : All IsValidLine lines → HasDown answers → EndsLink end
-  down_ends ok d = grind (arith, threads_down, saw_ends, none_missing, nat_tests)
+  pub down_ends : All IsValidLine lines → HasDown answers → AnyEnds main side
+  down_ends ok d = elim (threads_down s lines ok 1 answers called seen t came d) [
+    | inl saw ↦ saw_ends saw
+    | inr m ↦ absurd (none_missing m)
+  ]

@@ -6,11 +6,11 @@ use Rattle.std.proofs.lemmas.List.{take_more, take-append-drop}
 use Rattle.std.proofs.Math.Nat.{le-max_left, le-max_right}
 use Rattle.turn_lock.specs.History.{IsPrefix}
 use Rattle.turn_lock.specs.Seats.{Known, split_seat, joined_seat}
-use Rattle.seat_turns.specs.Own.{own_list, with_pasts, past_of, turns_of, IsWithin, Grows}
-use Rattle.seat_turns.proofs.Growing.{grows_then, grows_past}
-use Rattle.seat_turns.proofs.Owning.{own_joined, pasts_begins, pasts_within, within_append}
-use Rattle.seat_turns.proofs.Owning.{within_begins}
-use Rattle.seat_turns.proofs.Turning.{begins_trans, entries_begin}
+use Rattle.turn_lock.specs.Own.{own_list, with_pasts, past_of, turns_of, IsWithin, Grows}
+use Rattle.turn_lock.proofs.Growing.{grows_then, grows_past}
+use Rattle.turn_lock.proofs.Owning.{own_joined, pasts_begins, pasts_within, within_append}
+use Rattle.turn_lock.proofs.Owning.{within_begins}
+use Rattle.turn_lock.proofs.Turning.{begins_trans, entries_begin}
 use Rattle.shared_cache.specs.declared.log.LogEntry.{LogEntry}
 use Rattle.shared_cache.specs.Held.{Setup}
 use Rattle.shared_client.specs.Turns.{Place, Turn, setup_at, setup_in}

@@ -5,7 +5,8 @@ use Rattle.std.specs.List.{All}
 use Rattle.std.proofs.lemmas.List.Elements.{All-head, All-tail}
 use Rattle.turn_lock.specs.Counts.{total}
 use Rattle.turn_lock.specs.History.{IsPrefix}
-use Rattle.seat_turns.proofs.Owning.{total-append}
+use Rattle.turn_lock.proofs.Owning.{total-append}
+use Rattle.shared_cache.specs.declared.log.Wire.{Wire}
 use Rattle.shared_cache.specs.declared.log.LogEntry.{LogEntry}
 use Rattle.shared_client.specs.Turns.{Turn}
 use Rattle.client_link.specs.Pumps.{IsWork}
@@ -29,10 +30,11 @@ module _ (f : Turn → ℕ) where
   two_none ts mine rest e r m = let w = parts_total ts mine rest e in omega (arith, w, r, m)
 
   -- a pump's work has no weight, where no TakeOut and no Got has
-  pub works_none : ((e : LogEntry) (past : List LogEntry) → IsWork (e, past) → f (e, past) ≡ 0)
-      → (ts : List Turn) → All IsWork ts → total f ts ≡ 0
-  works_none none [] h = refl
-  works_none none (t ∷ ts) h =
-      let a : f t ≡ 0 = none t.0 t.1 (All-head IsWork t ts h) in
-      let b = works_none none ts (All-tail IsWork t ts h) in
+  pub works_none : (w : Wire)
+      → ((e : LogEntry) (past : List LogEntry) → IsWork w (e, past) → f (e, past) ≡ 0)
+      → (ts : List Turn) → All (IsWork w) ts → total f ts ≡ 0
+  works_none w none [] h = refl
+  works_none w none (t ∷ ts) h =
+      let a : f t ≡ 0 = none t.0 t.1 (All-head (IsWork w) t ts h) in
+      let b = works_none w none ts (All-tail (IsWork w) t ts h) in
       let e : total f (t ∷ ts) ≡ f t + total f ts = refl in omega (arith, a, b, e)

@@ -1,9 +1,9 @@
 -- A line that is down has no reply in the session's log: behind the link's end nothing is got.
-use Rattle.std.proofs.Common.{◌≡◌, ◌+◌, inl, inr, ℕ, suc, List, [], ◌∷◌, ◌++◌, true, false}
+use Rattle.std.proofs.Common.{◌≡◌, inl, inr, ℕ, suc, List, [], ◌∷◌, ◌++◌, true, false}
 use Rattle.std.proofs.Common.{None, refl, sym, ap, subst, ◌∙◌, arith}
 use Rattle.std.specs.Prelude.{◌⊎◌, ◌||◌, Bool}
 use Rattle.turn_lock.specs.History.{IsPrefix}
-use Rattle.seat_turns.proofs.Turning.{begins_trans}
+use Rattle.turn_lock.proofs.Turning.{begins_trans}
 use Rattle.shared_cache.specs.declared.log.Wire.{Wire}
 use Rattle.shared_cache.specs.declared.log.Wire.TheVariants.{Main, Side}
 use Rattle.shared_cache.specs.declared.log.LogEntry.{LogEntry}

@@ -3,7 +3,7 @@ use Rattle.std.specs.Prelude.{◌≡◌, ◌≤◌, ◌==◌, ℕ, suc, ⊤, Lis
 use Rattle.std.specs.Prelude.{Some, None}
 use Rattle.turn_lock.specs.History.{IsPrefix}
 use Rattle.turn_lock.specs.declared.rule.TheConstants.{LAST_TICKET}
-use Rattle.seat_turns.specs.Own.{past_of, Grows}
+use Rattle.turn_lock.specs.Own.{past_of, Grows}
 use Rattle.resp_value.specs.declared.value.Value.{Value}
 use Rattle.shared_cache.specs.declared.log.LogEntry.{LogEntry}
 use Rattle.shared_cache.specs.declared.log.LogEntry.TheVariants as entry

@@ -1,7 +1,9 @@
 -- What is printed of a session, and how it ends.
 use Rattle.std.specs.Prelude.{◌==◌, ◌&&◌, ◌||◌, ◌++◌, ◌+◌, ◌-◌, ℕ, zero, suc, List, [], ◌∷◌}
 use Rattle.std.specs.Prelude.{Bool, true}
-use Rattle.std.specs.Prelude.{false, not, cond, codes, Option, Some, None}
+use Rattle.std.specs.Prelude.{false, not, cond, codes, nat_le, Option, Some, None}
+use Rattle.shared_cache.specs.declared.log.Wire.{Wire}
+use Rattle.shared_cache.specs.declared.log.Wire.TheVariants.{Main, Side}
 use Rattle.shared_cache.specs.declared.log.ClientRefusal.{ClientRefusal}
 use Rattle.shared_cache.specs.declared.log.ClientRefusal.TheVariants as refusal
 use Rattle.script_text.specs.Answered.{answer_text}
@@ -90,25 +92,41 @@ abbrev pub tally_after : Tally → List LineEnd → Tally
 tally_after t [] = t
 tally_after t (e ∷ ends) = tally_after (note_end t e) ends
 
--- ---- how the session ends, where its pump ended by this number
+-- ---- how the session ends, where the pumps of Main, and of Side if there is one, ended by these
+-- numbers
 
-abbrev pub session_end : Tally → ℕ → SessionEnd
-session_end t pump =
+-- a pump ended by this number
+abbrev pub ends_so : ℕ → ℕ → Option ℕ → Bool
+ends_so number main None = main == number
+ends_so number main (Some side) = main == number || side == number
+
+-- the first link whose pump ended by 1 to 4
+abbrev pub link_ended : ℕ → Option ℕ → SessionEnd
+link_ended main None = session.LinkEnded Main main
+link_ended main (Some side) =
+    cond (nat_le main 4) (session.LinkEnded Main main) (session.LinkEnded Side side)
+
+abbrev pub session_end : Tally → ℕ → Option ℕ → SessionEnd
+session_end t main side =
     cond (not t.down && is_printing t) session.Done
-    (cond (t.no_memory || pump == 6) session.NoMemory
-    (cond (t.log_full || pump == 7) session.HistoryFull
-    (cond (t.worn || pump == 8) session.Worn (session.LinkEnded pump))))
+    (cond (t.no_memory || ends_so 6 main side) session.NoMemory
+    (cond (t.log_full || ends_so 7 main side) session.HistoryFull
+    (cond (t.worn || ends_so 8 main side) session.Worn (link_ended main side))))
 
-abbrev pub cause_text : ℕ → List ℕ
-cause_text number =
+abbrev pub cause_text : Wire → ℕ → List ℕ
+cause_text Main number =
     cond (number == 1) (codes "link-ended main 1")
     (cond (number == 2) (codes "link-ended main 2")
     (cond (number == 3) (codes "link-ended main 3") (codes "link-ended main 4")))
+cause_text Side number =
+    cond (number == 1) (codes "link-ended side 1")
+    (cond (number == 2) (codes "link-ended side 2")
+    (cond (number == 3) (codes "link-ended side 3") (codes "link-ended side 4")))
 
 -- the last line, with its LF
 abbrev pub end_text : SessionEnd → List ℕ
 end_text session.Done = []
-end_text (session.LinkEnded number) = cause_text number ++ 10 ∷ []
+end_text (session.LinkEnded w number) = cause_text w number ++ 10 ∷ []
 end_text session.HistoryFull = codes "history-full" ++ 10 ∷ []
 end_text session.NoMemory = codes "no-memory" ++ 10 ∷ []
 end_text session.Worn = codes "worn" ++ 10 ∷ []

@@ -1,13 +1,16 @@
--- What a session of a script comes to: one log, of which each entry is a turn of a caller, of the
--- pump, or the end at the last.
+-- What a session of a script comes to: one log, of which each entry is a turn of a caller, of a
+-- pump, or an end at the last.
 use Rattle.std.specs.Prelude.{◌≡◌, ◌≢◌, ◌≤◌, ◌⊎◌, ◌+◌, ℕ, ⊤, List, [], ◌∷◌, ◌++◌, length, Option}
-use Rattle.std.specs.Prelude.{true, Some, None, suc}
+use Rattle.std.specs.Prelude.{Bool, true, false, Some, None, suc}
 use Rattle.std.specs.List.{All}
 use Rattle.turn_lock.specs.Counts.{total}
 use Rattle.turn_lock.specs.History.{IsPrefix}
 use Rattle.turn_lock.specs.declared.rule.TheConstants.{LAST_TICKET}
-use Rattle.seat_turns.specs.Own.{past_of}
-use Rattle.shared_cache.specs.declared.log.Wire.TheVariants.{Main}
+use Rattle.turn_lock.specs.Own.{past_of}
+use Rattle.shared_cache.specs.declared.log.Wire.{Wire}
+use Rattle.shared_cache.specs.declared.log.Wire.TheVariants.{Main, Side}
+use Rattle.shared_cache.specs.declared.log.Shape.{Shape}
+use Rattle.shared_cache.specs.declared.log.Shape.TheVariants.{Single, Pair}
 use Rattle.shared_cache.specs.declared.log.LogEntry.{LogEntry}
 use Rattle.shared_cache.specs.declared.log.LogEntry.TheVariants as entry
 use Rattle.shared_cache.specs.Held.{Setup}
@@ -25,6 +28,7 @@ use Rattle.client_link.specs.declared.pump_end.PumpEnd.TheVariants as ended
 use Rattle.client_link.specs.Pumps.{Pumps}
 use Rattle.script_run.specs.declared.answer.Answer.{Answer}
 use Rattle.script_run.specs.declared.reports.LineEnd.TheVariants as line
+use Rattle.edge_links.specs.declared.counts.Counts.{Counts}
 use Rattle.script_run.specs.Lines.{call_for, entry_for, calls_of, AllCame, ThreadsCame}
 use Rattle.script_run.specs.Reports.{line_end, ends_of}
 
@@ -72,60 +76,99 @@ Unanswered s lines thread (answers ∷ others) turns seen tickets came log =
     AllUnanswered s (calls_of thread lines) answers came.0 seen tickets came.3.came log
     × Unanswered s lines (suc thread) others came.1 seen tickets came.4 log
 
+-- ---- the links
+
+-- a client of this shape has a Side
+abbrev pub is_pair : Shape → Bool
+is_pair Single = false
+is_pair Pair = true
+
+-- a link with its pump: why that ended; and before and after, what was left of the link to read and
+-- was written to it, where this is known, and what it had counted
+pub record LinkEnd : Type 0 where
+  pub end : PumpEnd
+  pub left0 : Option (List ℕ)
+  pub left1 : Option (List ℕ)
+  pub link0 : Option (List ℕ)
+  pub link1 : Option (List ℕ)
+  pub counts0 : Counts
+  pub counts1 : Counts
+
 -- the pump ended the link, and neither found it ended nor had no ticket
 abbrev pub EndsLink : PumpEnd → Type 0
 EndsLink ended.Done = ⊥
 EndsLink ended.Worn = ⊥
 EndsLink e = ⊤
 
--- the pump's turns on this log, from its start on
-pub record PumpedBy (s : Setup) (end : PumpEnd) (left0 left1 link0 link1 : Option (List ℕ))
-    (turns : List Turn) (log : List LogEntry) (tickets : ℕ) : Type 0 where
+-- the pump of Main did, or that of Side
+abbrev pub AnyEnds : LinkEnd → Option LinkEnd → Type 0
+AnyEnds main None = EndsLink main.end
+AnyEnds main (Some side) = EndsLink main.end ⊎ EndsLink side.end
+
+-- the turns of a link's pump on this log, from its start on
+pub record PumpedBy (s : Setup) (w : Wire) (l : LinkEnd) (turns : List Turn) (log : List LogEntry)
+    (tickets : ℕ) : Type 0 where
   pub before : Place
   pub after : Place
   pub from_start : past_of before ≡ []
   pub setup_is : setup_at before ≡ s
   pub begins : IsPrefix (past_of after) log
   pub not_more : after.tickets ≤ tickets
-  pub pumps : Pumps end left0 left1 link0 link1 before after
+  pub pumps : Pumps w l.end l.left0 l.left1 l.link0 l.link1 before after
   pub turns_are : turns ≡ pumps.ending ++ pumps.works.turns
 
--- the end at the last, behind all that the callers saw; or the link had ended, or no ticket was
--- left
-pub data ClosedBy (s : Setup) (turns : List Turn) (seen log : List LogEntry) (tickets : ℕ) : Type 0
-  where
-    LastEnd : (past : List LogEntry) → turns ≡ (entry.End Main, past) ∷ [] → IsPrefix seen past
-        → ClosedBy s turns seen log tickets
-    Over : (later : List LogEntry) → turns ≡ [] → IsPrefix later log
-        → is_ended s.mode Main later ≡ true → ClosedBy s turns seen log tickets
-    NoTicket : turns ≡ [] → LAST_TICKET ≤ tickets → ClosedBy s turns seen log tickets
+-- the same of Side, where there is one
+abbrev pub SidePumped : Setup → Option LinkEnd → List Turn → List LogEntry → ℕ → Type 0
+SidePumped s None turns log tickets = turns ≡ []
+SidePumped s (Some l) turns log tickets = PumpedBy s Side l turns log tickets
+
+-- a link's end at the last, behind all that the callers saw; or the link had ended, or no ticket
+-- was left
+pub data ClosedBy (s : Setup) (w : Wire) (turns : List Turn) (seen log : List LogEntry)
+    (tickets : ℕ) : Type 0 where
+  LastEnd : (past : List LogEntry) → turns ≡ (entry.End w, past) ∷ [] → IsPrefix seen past
+      → ClosedBy s w turns seen log tickets
+  Over : (later : List LogEntry) → turns ≡ [] → IsPrefix later log
+      → is_ended s.mode w later ≡ true → ClosedBy s w turns seen log tickets
+  NoTicket : turns ≡ [] → LAST_TICKET ≤ tickets → ClosedBy s w turns seen log tickets
+
+-- the same of Side, where there is one
+abbrev pub SideClosed : Setup → Option LinkEnd → List Turn → List LogEntry → List LogEntry → ℕ
+    → Type 0
+SideClosed s None turns seen log tickets = turns ≡ []
+SideClosed s (Some l) turns seen log tickets = ClosedBy s Side turns seen log tickets
+
+-- ---- a session
 
 pub record Session (s : Setup) (lines : List ScriptLine) (answers : List (List Answer))
-    (end : PumpEnd) (left0 left1 link0 link1 : Option (List ℕ)) (log : List LogEntry) (tickets : ℕ)
-    : Type 0 where
-  -- the turns of the callers, of the pump, and the last
+    (main : LinkEnd) (side : Option LinkEnd) (log : List LogEntry) (tickets : ℕ) : Type 0 where
+  -- the turns of the callers, of each link's pump, and the last
   pub called : List Turn
   pub pumped : List Turn
+  pub side_pumped : List Turn
   pub closing : List Turn
+  pub side_closing : List Turn
   -- what the callers have seen of the log in the end
   pub seen : List LogEntry
   pub begins : IsPrefix seen log
   pub many : length answers ≡ most_threads
   pub came : ThreadsCame s lines 1 answers called seen tickets
-  pub pumps : PumpedBy s end left0 left1 link0 link1 pumped log tickets
-  pub closes : ClosedBy s closing seen log tickets
+  pub pumps : PumpedBy s Main main pumped log tickets
+  pub side_pumps : SidePumped s side side_pumped log tickets
+  pub closes : ClosedBy s Main closing seen log tickets
+  pub side_closes : SideClosed s side side_closing seen log tickets
   -- these are the log's entries, each once, however they are weighed
   pub all : (f : Turn → ℕ) → total f (turns_in log)
-      ≡ total f pumped + (total f closing + total f called)
+      ≡ total f (pumped ++ side_pumped) + (total f (side_closing ++ closing) + total f called)
   pub legal : LegalLog s log
-  pub down : HasDown answers → EndsLink end
+  pub down : HasDown answers → AnyEnds main side
   pub unanswered : Unanswered s lines 1 answers called seen tickets came log
 
--- In a session whose pump did not end the link no line is down: each is answered by a hit or an
+-- In a session none of whose pumps ended a link no line is down: each is answered by a hit or an
 -- answer, or finds no memory, a full log or no ticket.
 abbrev pub LinesAreAnswered : Type 0
 LinesAreAnswered =
-    (s : Setup) (lines : List ScriptLine) (answers : List (List Answer)) (end : PumpEnd)
-    (left0 left1 link0 link1 : Option (List ℕ)) (log : List LogEntry) (tickets : ℕ)
-    → Session s lines answers end left0 left1 link0 link1 log tickets → (EndsLink end → ⊥)
+    (s : Setup) (lines : List ScriptLine) (answers : List (List Answer)) (main : LinkEnd)
+    (side : Option LinkEnd) (log : List LogEntry) (tickets : ℕ)
+    → Session s lines answers main side log tickets → (AnyEnds main side → ⊥)
     → All (λ e. e ≢ line.Said said.Down) (ends_of lines answers)

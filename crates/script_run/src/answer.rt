@@ -1,10 +1,10 @@
 //! What one line of a script comes to.
 ghost use Rattle.std.specs.Prelude.{◌≡◌};
-ghost use Rattle.seat_turns.specs.Own.{IsWithin};
+ghost use Rattle.turn_lock.specs.Own.{IsWithin};
 ghost use Rattle.script_text.specs.Scripts.{IsValidCall};
 ghost use Rattle.script_run.specs.Lines.{PlaysLine};
 
-use client_link::{Bell, ask_through, send_through};
+use client_link::{Waiters, ask_through, send_through};
 use resp_value::Value;
 use script_text::ScriptCall;
 use shared_cache::ClientRefusal;
@@ -30,7 +30,7 @@ pub fn play_line<R: Wait>(
     rt: &R,
     lock: &TurnLock<SharedClient>,
     seat: &mut Seat<SharedClient>,
-    bell: &Bell,
+    waiters: &Waiters,
     call: &ScriptCall,
 ) -> Answer
     requires lock { seat.old.lock ≡ lock.now }
@@ -39,7 +39,7 @@ pub fn play_line<R: Wait>(
     ensures { PlaysLine call.now result seat.old seat.new }
 {
     match call {
-        ScriptCall::Ask(query) => match ask_through(rt, lock, seat, bell, query) {
+        ScriptCall::Ask(query) => match ask_through(rt, lock, seat, waiters, query) {
             Ok(fetched) => {
                 if fetched.from_cache {
                     Answer::Hit(fetched.number, fetched.value)
@@ -49,7 +49,7 @@ pub fn play_line<R: Wait>(
             }
             Err(refusal) => Answer::Refused(refusal),
         },
-        ScriptCall::Do(words) => match send_through(rt, lock, seat, bell, words) {
+        ScriptCall::Do(words) => match send_through(rt, lock, seat, waiters, words) {
             Ok(value) => Answer::Reply(value),
             Err(refusal) => Answer::Refused(refusal),
         },

@@ -3,13 +3,13 @@ ghost use Rattle.std.specs.Prelude.{◌≡◌, ◌-◌, ◌<◌, ◌≤◌, [], 
 ghost use Rattle.std.specs.Thread.{IsSync};
 ghost use Rattle.std.specs.List.{All};
 ghost use Rattle.turn_lock.specs.Seats.{split_seat};
-ghost use Rattle.seat_turns.specs.Own.{IsWithin};
+ghost use Rattle.turn_lock.specs.Own.{IsWithin};
 ghost use Rattle.script_text.specs.Scripts.{IsValidLine};
 ghost use Rattle.script_run.specs.Reports.{first_of, rest_of};
 ghost use Rattle.script_run.specs.Lines.{calls_of, PlaysThread, PlaysThreads};
 
 use super::answer::{Answer, play_line};
-use client_link::Bell;
+use client_link::Waiters;
 use script_text::ScriptLine;
 use shared_client::SharedClient;
 use std::alloc::Global;
@@ -93,7 +93,7 @@ fn play_thread<R: Wait>(
         alloc,
         lock,
         seat,
-        &board.bell,
+        &board.waiters,
         thread,
         board.lines.as_slice(),
     )
@@ -105,7 +105,7 @@ fn play_lines<R: Wait>(
     alloc: Global,
     lock: &TurnLock<SharedClient>,
     mut seat: Seat<SharedClient>,
-    bell: &Bell,
+    waiters: &Waiters,
     thread: u64,
     lines: &[ScriptLine],
 ) -> Caller<Answers>
@@ -126,7 +126,7 @@ fn play_lines<R: Wait>(
                     },
                 };
             }
-            let answer = play_line(rt, lock, &mut seat, bell, &line.call);
+            let answer = play_line(rt, lock, &mut seat, waiters, &line.call);
             items.push_reserved(answer);
         }
     }
@@ -141,7 +141,9 @@ fn play_lines<R: Wait>(
 /// What the threads of a script share beside the client.
 #[derive(Drop)]
 pub struct Board {
-    pub bell: Bell,
+    pub waiters: Waiters,
+    /// Whether the client has a Side.
+    pub has_side: bool,
     pub lines: Vec<ScriptLine>,
 }
 

@@ -1,4 +1,4 @@
-//! A script: threads that ask one client over one link, and what their lines came to.
+//! A script: threads that ask one client over its links, and what their lines came to.
 #![tactic(auto)]
 
 mod answer;
@@ -9,6 +9,6 @@ mod session;
 
 pub use answer::Answer;
 pub use callers::Answers;
-pub use laws::law_lines_are_answered;
+pub use laws::{law_lines_are_answered, law_sound_sessions_are_answered};
 pub use reports::{SessionEnd, report};
-pub use session::{Played, play_script};
+pub use session::{Played, PumpedLink, play_script};

@@ -1,5 +1,6 @@
 //! What is printed of a session, and how it ends.
 ghost use Rattle.std.specs.Prelude.{◌≡◌, ◌++◌, ◌-◌, ◌<◌, List, OnOk, OnErr, IfOk, length};
+ghost use Rattle.std.specs.Prelude.{option_map};
 ghost use Rattle.std.specs.List.{All};
 ghost use Rattle.resp_value.specs.Lists.{IsPrefix};
 ghost use Rattle.client_link.specs.Pumps.{end_number};
@@ -7,14 +8,14 @@ ghost use Rattle.script_text.specs.Scripts.{IsValidLine, most_threads};
 ghost use Rattle.script_run.specs.declared.reports.LineEnd.{LineEnd};
 ghost use Rattle.script_run.specs.Reports.{first_at, rest_at, line_end, ends_of, no_tally};
 ghost use Rattle.script_run.specs.Reports.{note_end, is_printing, said_text, text_after};
-ghost use Rattle.script_run.specs.Reports.{tally_after, session_end, end_text};
+ghost use Rattle.script_run.specs.Reports.{tally_after, ends_so, link_ended, session_end, end_text};
 
 use super::answer::Answer;
 use super::callers::Answers;
 use client_link::PumpEnd;
 use resp_value::NoMemory;
 use script_text::{ScriptAnswer, ScriptLine, put_script_answer};
-use shared_cache::ClientRefusal;
+use shared_cache::{ClientRefusal, Wire};
 
 /// What is printed of a line: its answer, or why none is from here on.
 #[derive(Drop)]
@@ -39,8 +40,8 @@ pub struct Tally {
 pub enum SessionEnd {
     /// Each line was answered by a hit or by an answer.
     Done,
-    /// A line found the link ended; its pump ended by this number.
-    LinkEnded(u8),
+    /// A line found Main ended; the pump of this link is the first that ended by 1 to 4.
+    LinkEnded(Wire, u8),
     /// The client's log is full.
     HistoryFull,
     NoMemory,
@@ -75,6 +76,41 @@ fn next_of(threads: &mut Vec<Answers>, thread: u64) -> Option<Answer>
     threads[(thread - 1) as usize].next()
 }
 
+// Whether the pump of Main, or of Side if there is one, ended by that number.
+fn ends_so(number: u8, main: u8, side: Option<u8>) -> bool
+    ensures { result ≡ ends_so number main side }
+{
+    match side {
+        None => main == number,
+        Some(side) => main == number || side == number,
+    }
+}
+
+// The first link whose pump ended by 1 to 4.
+fn link_ended(main: u8, side: Option<u8>) -> SessionEnd
+    ensures { result ≡ link_ended main side }
+{
+    match side {
+        None => SessionEnd::LinkEnded(Wire::Main, main),
+        Some(side) => {
+            if main <= 4 {
+                SessionEnd::LinkEnded(Wire::Main, main)
+            } else {
+                SessionEnd::LinkEnded(Wire::Side, side)
+            }
+        }
+    }
+}
+
+fn number_of(end: Option<PumpEnd>) -> Option<u8>
+    ensures { result ≡ option_map end_number end }
+{
+    match end {
+        None => None,
+        Some(end) => Some(end.number()),
+    }
+}
+
 impl Tally {
     fn new() -> Tally
         ensures { result ≡ no_tally }
@@ -105,19 +141,19 @@ impl Tally {
         }
     }
 
-    fn end(&self, pump: u8) -> SessionEnd
-        ensures { result ≡ session_end self.now pump }
+    fn end(&self, main: u8, side: Option<u8>) -> SessionEnd
+        ensures { result ≡ session_end self.now main side }
     {
         if !self.down && self.is_printing() {
             SessionEnd::Done
-        } else if self.no_memory || pump == 6 {
+        } else if self.no_memory || ends_so(6, main, side) {
             SessionEnd::NoMemory
-        } else if self.log_full || pump == 7 {
+        } else if self.log_full || ends_so(7, main, side) {
             SessionEnd::HistoryFull
-        } else if self.worn || pump == 8 {
+        } else if self.worn || ends_so(8, main, side) {
             SessionEnd::Worn
         } else {
-            SessionEnd::LinkEnded(pump)
+            link_ended(main, side)
         }
     }
 }
@@ -138,7 +174,8 @@ fn put_said(number: u64, end: &LineEnd, out: &mut Vec<u8>) -> Result<(), NoMemor
 pub fn report(
     lines: &[ScriptLine],
     threads: &mut Vec<Answers>,
-    pump: PumpEnd,
+    main: PumpEnd,
+    side: Option<PumpEnd>,
     out: &mut Vec<u8>,
 ) -> Result<SessionEnd, NoMemory>
     requires lines { All IsValidLine lines.now }
@@ -149,7 +186,8 @@ pub fn report(
         × IsPrefix first (ends_of lines.now threads.old.items)
         × (out.new.items ≡ out.old.items ++ text_after no_tally 1 first)) }
     ensures end { IfOk result (λ e. e ≡ session_end
-        (tally_after no_tally (ends_of lines.now threads.old.items)) (end_number pump)) }
+        (tally_after no_tally (ends_of lines.now threads.old.items)) (end_number main)
+        (option_map end_number side)) }
 {
     let mut tally = Tally::new();
     for place in 0..lines.len() {
@@ -160,7 +198,7 @@ pub fn report(
             put_said(place as u64 + 1, &end, out)?;
         }
     }
-    Ok(tally.end(pump.number()))
+    Ok(tally.end(main.number(), number_of(side)))
 }
 
 impl SessionEnd {
@@ -170,10 +208,14 @@ impl SessionEnd {
     {
         match self {
             SessionEnd::Done => b"",
-            SessionEnd::LinkEnded(1) => b"link-ended main 1\n",
-            SessionEnd::LinkEnded(2) => b"link-ended main 2\n",
-            SessionEnd::LinkEnded(3) => b"link-ended main 3\n",
-            SessionEnd::LinkEnded(_) => b"link-ended main 4\n",
+            SessionEnd::LinkEnded(Wire::Main, 1) => b"link-ended main 1\n",
+            SessionEnd::LinkEnded(Wire::Main, 2) => b"link-ended main 2\n",
+            SessionEnd::LinkEnded(Wire::Main, 3) => b"link-ended main 3\n",
+            SessionEnd::LinkEnded(Wire::Main, _) => b"link-ended main 4\n",
+            SessionEnd::LinkEnded(Wire::Side, 1) => b"link-ended side 1\n",
+            SessionEnd::LinkEnded(Wire::Side, 2) => b"link-ended side 2\n",
+            SessionEnd::LinkEnded(Wire::Side, 3) => b"link-ended side 3\n",
+            SessionEnd::LinkEnded(Wire::Side, _) => b"link-ended side 4\n",
             SessionEnd::HistoryFull => b"history-full\n",
             SessionEnd::NoMemory => b"no-memory\n",
             SessionEnd::Worn => b"worn\n",

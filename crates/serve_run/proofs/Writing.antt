@@ -20,22 +20,22 @@ text_cut end text old new a =
     first_longer old new text (text ++ end_line end)
     (prefix_by text (text ++ end_line end) (end_line end) refl) a
 
-module _ {A : Type 0} (served : Option (Served A)) (net0 net1 : Counts) where
-  fault_rests : (text : List ℕ) → Runs served text NetFault → NetGave served NetFault net0 net1
-      → NetFailed served net0 net1
+module _ {A : Type 0} (connections : ℕ) (served : Option (Served A)) (net0 net1 : Counts) where
+  fault_rests : (text : List ℕ) → Runs connections served text NetFault
+      → NetGave served NetFault net0 net1 → NetFailed served net0 net1
   fault_rests text r n = by_served served r n
     where
-      by_served : (s : Option (Served A)) → Runs s text NetFault → NetGave s NetFault net0 net1
-          → NetFailed s net0 net1
+      by_served : (s : Option (Served A)) → Runs connections s text NetFault
+          → NetGave s NetFault net0 net1 → NetFailed s net0 net1
       by_served None r n = n.0
       by_served (Some s) r n = r.1
 
   pub fault_failed : (answer : Result ServeEnd SinkFailed) (old new : Option (List ℕ))
-      → WritesRun served answer net0 net1 old new → answer ≡ Ok NetFault
+      → WritesRun connections served answer net0 net1 old new → answer ≡ Ok NetFault
       → NetFailed served net0 net1
   fault_failed answer old new w e =
-      let is : WritesRun served (Ok NetFault) net0 net1 old new =
-      subst (λ a. WritesRun served a net0 net1 old new) e w in
+      let is : WritesRun connections served (Ok NetFault) net0 net1 old new =
+      subst (λ a. WritesRun connections served a net0 net1 old new) e w in
       let end : NetFault ≡ is.0 = is.4.0 in
-      fault_rests is.1 (subst (λ x. Runs served is.1 x) (sym end) is.2)
+      fault_rests is.1 (subst (λ x. Runs connections served is.1 x) (sym end) is.2)
       (subst (λ x. NetGave served x net0 net1) (sym end) is.3)

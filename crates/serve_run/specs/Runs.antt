@@ -1,16 +1,14 @@
 -- What the run of a server comes to.
 use Rattle.std.specs.Prelude.{◌≡◌, ◌<◌, ◌≤◌, ◌⊎◌, ℕ, List, [], length, true, false, Option}
 use Rattle.std.specs.declared.option.Option.TheVariants.{None, Some}
-use Rattle.resp_value.specs.Lists.{IsPrefix}
 use Rattle.edge_links.specs.declared.counts.Counts.{Counts}
 use Rattle.edge_links.specs.Counts.{Counted, FaultCounted, nought}
 use Rattle.serial_model.specs.declared.history.Limits.{Limits}
 use Rattle.serial_model.specs.History.{is_stopped}
-use Rattle.conn_worker.specs.declared.report.Report.{Report}
 use Rattle.conn_pool.specs.declared.serve.Served.{Served}
 use Rattle.conn_pool.specs.Dispatcher.{after_giving, still}
 use Rattle.conn_pool.specs.Outcome.{Stands}
-use Rattle.serve_run.specs.Reports.{report_text}
+use Rattle.serve_run.specs.Reports.{IsBegun, lines_of, names_each}
 use Rattle.serve_run.specs.declared.run.ServeEnd.{ServeEnd}
 use Rattle.serve_run.specs.declared.run.ServeEnd.TheVariants.{Done, NetFault, NoMemory}
 
@@ -33,15 +31,17 @@ pub record ServesAll {A L : Type 0} (limits : Limits) (connections : ℕ) (count
   pub within : 0 < connections → length s.reports.items ≤ connections
   pub history : Stands limits s.reports.items s.book
 
--- the text has the lines of the reports, and the end says whether the net failed
-abbrev pub Runs : {A : Type 0} → Option (Served A) → List ℕ → ServeEnd → Type 0
-Runs None text Done = ⊥
-Runs None text NetFault = text ≡ []
-Runs None text NoMemory = text ≡ []
-Runs (Some s) text Done = (text ≡ report_text s.reports.items) × (s.accept_failed ≡ false)
-Runs (Some s) text NetFault = (text ≡ report_text s.reports.items) × (s.accept_failed ≡ true)
-Runs (Some s) text NoMemory =
-    (first : List Report) × IsPrefix first s.reports.items × (text ≡ report_text first)
+-- the text has the lines of a run with this limit, and the end says whether the net failed
+abbrev pub Runs : {A : Type 0} → ℕ → Option (Served A) → List ℕ → ServeEnd → Type 0
+Runs connections None text Done = ⊥
+Runs connections None text NetFault = text ≡ []
+Runs connections None text NoMemory = text ≡ []
+Runs connections (Some s) text Done =
+    (text ≡ lines_of (names_each connections) s.reports.items) × (s.accept_failed ≡ false)
+Runs connections (Some s) text NetFault =
+    (text ≡ lines_of (names_each connections) s.reports.items) × (s.accept_failed ≡ true)
+Runs connections (Some s) text NoMemory =
+    IsBegun (names_each connections) s.reports.items [] text
 
 -- where nothing was served for a fault of the net, it counted one, and else none
 abbrev pub NetGave : {A : Type 0} → Option (Served A) → ServeEnd → Counts → Counts → Type 0

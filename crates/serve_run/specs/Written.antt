@@ -17,19 +17,19 @@ end_line Done = []
 end_line NetFault = codes "net-fault\n"
 end_line NoMemory = codes "no-memory\n"
 
--- The lines of the reports were written, and then the last line of the end, which is answered.
+-- The lines of the run were written, and then the last line of the end, which is answered.
 -- Where the sink failed, the first bytes of that were written.
 abbrev pub RunWrites : Result ServeEnd SinkFailed → ServeEnd → List ℕ → Option (List ℕ)
     → Option (List ℕ) → Type 0
 RunWrites (Ok answer) end text old new = (answer ≡ end) × Appends old new (text ++ end_line end)
 RunWrites (Err failed) end text old new = AppendsFirst old new (text ++ end_line end)
 
--- what was served ended so, and this was written of it
-abbrev pub WritesRun : {A : Type 0} → Option (Served A) → Result ServeEnd SinkFailed → Counts
+-- what was served with this limit of connections ended so, and this was written of it
+abbrev pub WritesRun : {A : Type 0} → ℕ → Option (Served A) → Result ServeEnd SinkFailed → Counts
     → Counts → Option (List ℕ) → Option (List ℕ) → Type 0
-WritesRun served answer net0 net1 old new =
-    (end : ServeEnd) × (text : List ℕ) × Runs served text end × NetGave served end net0 net1
-    × RunWrites answer end text old new
+WritesRun connections served answer net0 net1 old new =
+    (end : ServeEnd) × (text : List ℕ) × Runs connections served text end
+    × NetGave served end net0 net1 × RunWrites answer end text old new
 
 -- a fault of the net was counted, or its acceptor failed
 abbrev pub NetFailed : {A : Type 0} → Option (Served A) → Counts → Counts → Type 0

@@ -11,6 +11,7 @@ use conn_pool::Served;
 use edge_lines::{SinkFailed, write_all};
 use edge_links::{Clock, Net, Sink};
 use serial_model::Limits;
+use socket_links::Wakeable;
 use std::alloc::Global;
 use std::sync::Wait;
 use std::thread::Threads;
@@ -35,7 +36,7 @@ pub struct WrittenRun<A> {
     pub end: Result<ServeEnd, SinkFailed>,
 }
 
-/// Serves, as `serve` does, and then writes a line for each connection and the last line.
+/// Serves, as `serve` does, and then writes the text and the last line.
 pub fn serve_and_write<N: Net, C: Clock + Sync, K: Sink, R: Threads + Wait + Eprint + Sync>(
     rt: &R,
     alloc: Global,
@@ -47,12 +48,14 @@ pub fn serve_and_write<N: Net, C: Clock + Sync, K: Sink, R: Threads + Wait + Epr
     clock: &C,
     output: &mut K,
 ) -> WrittenRun<N::Acceptor>
+where
+    N::Link: Wakeable,
     requires limits { AreValid limits }
     requires workers { (1 ≤ workers) × (workers ≤ 64) }
     ensures served { IfSome result.served (λ s. ServesAll limits connections
         N.Acceptor.counts N.Acceptor.left s) }
-    ensures writes { WritesRun result.served result.end (N.counts net.old) (N.counts net.new)
-        (K.contents output.old) (K.contents output.new) }
+    ensures writes { WritesRun connections result.served result.end (N.counts net.old)
+        (N.counts net.new) (K.contents output.old) (K.contents output.new) }
     ensures net { result.end ≡ Ok NetFault
         → NetFailed result.served (N.counts net.old) (N.counts net.new) }
     ensures write { OnErr result.end
@@ -72,7 +75,7 @@ pub fn serve_and_write<N: Net, C: Clock + Sync, K: Sink, R: Threads + Wait + Epr
     WrittenRun { served, end }
 }
 
-// Writes the lines of the reports, and then the last line.
+// Writes the lines of the run, and then the last line.
 fn write_run<K: Sink>(text: &[u8], end: ServeEnd, output: &mut K) -> Result<ServeEnd, SinkFailed>
     ensures bytes { RunWrites result end text.now (K.contents output.old)
         (K.contents output.new) }

@@ -1,14 +1,16 @@
 //! The run of a server, from its listening to its reports.
 ghost use Rattle.std.specs.Prelude.{◌≡◌, ◌≤◌, IfSome, Some};
 ghost use Rattle.serial_model.specs.Steps.{AreValid};
+ghost use Rattle.serve_run.specs.Reports.{names_each};
 ghost use Rattle.serve_run.specs.Runs.{NetGave, Runs, ServesAll};
 
 use super::notices::Notices;
-use super::report::put_reports;
+use super::report::put_lines;
 use conn_pool::{Served, serve_all};
 use edge_links::{Clock, Net, NetFailed};
 use resp_value::NoMemory;
 use serial_model::Limits;
+use socket_links::Wakeable;
 use std::alloc::Global;
 use std::sync::Wait;
 use std::thread::Threads;
@@ -22,8 +24,8 @@ pub enum ServeEnd {
     NoMemory,
 }
 
-/// What a server came to. `text` has a line for each report, in order of their ids; where memory
-/// ran out there may be fewer.
+/// What a server came to. `text` has a line for each report, in order of their ids, or without a
+/// limit of connections one for each way to end; where memory ran out there may be fewer.
 #[derive(Drop)]
 pub struct ServeRun<A> {
     pub served: Option<Served<A>>,
@@ -44,11 +46,13 @@ pub fn serve<N: Net, C: Clock + Sync, R: Threads + Wait + Eprint + Sync>(
     net: &mut N,
     clock: &C,
 ) -> ServeRun<N::Acceptor>
+where
+    N::Link: Wakeable,
     requires limits { AreValid limits }
     requires workers { (1 ≤ workers) × (workers ≤ 64) }
     ensures served { IfSome result.served (λ s. ServesAll limits connections
         N.Acceptor.counts N.Acceptor.left s) }
-    ensures runs { Runs result.served result.text.items result.end }
+    ensures runs { Runs connections result.served result.text.items result.end }
     ensures net { NetGave result.served result.end (N.counts net.old) (N.counts net.new) }
 {
     let text = Vec::new(alloc);
@@ -74,7 +78,7 @@ pub fn serve<N: Net, C: Clock + Sync, R: Threads + Wait + Eprint + Sync>(
         workers,
         connections,
     ) {
-        Ok(served) => report(alloc, served),
+        Ok(served) => report(alloc, served, connections),
         Err(NoMemory) => ServeRun {
             served: None,
             text,
@@ -83,13 +87,14 @@ pub fn serve<N: Net, C: Clock + Sync, R: Threads + Wait + Eprint + Sync>(
     }
 }
 
-// What was served, with its reports.
-fn report<A>(alloc: Global, served: Served<A>) -> ServeRun<A>
+// What was served, with the lines of its reports.
+fn report<A>(alloc: Global, served: Served<A>, connections: u64) -> ServeRun<A>
+    requires each { served.reports.each ≡ names_each connections }
     ensures served { result.served ≡ Some served }
-    ensures runs { Runs result.served result.text.items result.end }
+    ensures runs { Runs connections result.served result.text.items result.end }
 {
     let mut text = Vec::new(alloc);
-    let end = match put_reports(alloc, served.reports.as_slice(), &mut text) {
+    let end = match put_lines(alloc, &served.reports, &mut text) {
         Ok(()) if served.accept_failed => ServeEnd::NetFault,
         Ok(()) => ServeEnd::Done,
         Err(NoMemory) => ServeEnd::NoMemory,

@@ -3,7 +3,7 @@ ghost use Rattle.std.specs.Prelude.{◌≤◌};
 ghost use Rattle.std.specs.declared.option.Option.TheVariants.{None};
 
 use crate::{ServeEnd, serve};
-use conn_pool::{Served, serve_all};
+use conn_pool::{EndTotal, Kept, Served, serve_all};
 use conn_worker::{Ended, Gate, OpenGate, Report};
 use edge_links::{
     AcceptStep, Accepted, Acceptor, Counts, FixedClock, LinkStep, ListedNet, Listening,
@@ -11,6 +11,7 @@ use edge_links::{
 };
 use resp_value::{NoMemory, Words};
 use serial_model::Limits;
+use socket_links::Wakeable;
 use std::alloc::{AllocError, Global};
 use std::hint::spin_loop;
 use std::sync::Wait;
@@ -80,6 +81,8 @@ fn serves<N: Net, R: Threads + Wait + Eprint + Sync>(
     most: u64,
     net: &mut N,
 ) -> (ServeEnd, bool, Vec<u8>)
+where
+    N::Link: Wakeable,
     requires { (1 ≤ workers) × (workers ≤ 64) }
 {
     let clock = FixedClock { ms: 0 };
@@ -88,22 +91,30 @@ fn serves<N: Net, R: Threads + Wait + Eprint + Sync>(
 }
 
 /// The connections, the workers, the most connections; how it ended, and what it printed.
-const ROWS: &str = " = 1 = 0 = Done = 
-GET a;,GET a;GET b;,idle,*1;$007 = 1 = 0 = Done = \
+const ROWS: &str = " = 1 = 9 = Done = 
+GET a;,GET a;GET b;,idle,*1;$007 = 1 = 9 = Done = \
 connection 1 ended 1 requests 1;connection 2 ended 1 requests 2;connection 3 ended 4 requests 0;
 GET a;,GET a;,GET a; = 3 = 2 = Done = \
 connection 1 ended 1 requests 1;connection 2 ended 1 requests 1;
-GET a;,fail,GET a; = 1 = 0 = NetFault = connection 1 ended 1 requests 1;
-PING;QUIT;PING;,GET a; = 1 = 0 = Done = \
+GET a;,fail,GET a; = 1 = 9 = NetFault = connection 1 ended 1 requests 1;
+PING;QUIT;PING;,GET a; = 1 = 9 = Done = \
 connection 1 ended 2 requests 2;connection 2 ended 1 requests 1;
-GET a;,PING;SHUTDOWN;PING;,GET a; = 1 = 0 = Done = \
+GET a;,PING;SHUTDOWN;PING;,GET a; = 1 = 9 = Done = \
 connection 1 ended 1 requests 1;connection 2 ended 3 requests 2;
-GET a;,GET a;,idle,GET a;,GET a; = 16 = 0 = Done = \
+GET a;,GET a;,idle,GET a;,GET a; = 16 = 9 = Done = \
 connection 1 ended 1 requests 1;connection 2 ended 1 requests 1;\
-connection 3 ended 1 requests 1;connection 4 ended 1 requests 1;";
+connection 3 ended 1 requests 1;connection 4 ended 1 requests 1;
+ = 1 = 0 = Done = 
+GET a;,GET a;GET b;,idle,*1;$007 = 1 = 0 = Done = \
+ended 1 connections 2 requests 3;ended 4 connections 1 requests 0;
+GET a;,fail,GET a; = 1 = 0 = NetFault = ended 1 connections 1 requests 1;
+GET a;,PING;SHUTDOWN;PING;,GET a; = 1 = 0 = Done = \
+ended 1 connections 1 requests 1;ended 3 connections 1 requests 2;
+GET a;,PING;QUIT;,GET a;,idle,GET a;,GET a; = 16 = 0 = Done = \
+ended 1 connections 4 requests 4;ended 2 connections 1 requests 2;";
 
 #[test]
-fn each_connection_has_a_line_in_order_of_ids(rt: HostRuntime) -> Result<(), Fail> {
+fn each_connection_has_a_line_or_each_way_to_end(rt: HostRuntime) -> Result<(), Fail> {
     for row in ROWS.lines() {
         let mut parts = row.split(" = ");
         let acceptor = acceptor_of(rt.alloc(), parts.next().unwrap_or(""))?;
@@ -171,17 +182,25 @@ impl Gate for Turnstile {
     }
 }
 
+/// The reports, where each was kept.
+fn each_of<A>(served: &Served<A>) -> &[Report] {
+    match served.reports.kept() {
+        Kept::Each(reports) => reports.as_slice(),
+        Kept::Totals(_) => &[],
+    }
+}
+
 /// How many connections and requests were served, where no accept failed and each connection ended
 /// as its peer did.
 fn counts_of<A>(served: &Served<A>) -> Option<(usize, u64)> {
     let mut requests = 0u64;
-    for report in served.reports.as_slice() {
+    for report in each_of(served) {
         if report.ended != Ended::PeerEnd {
             return None;
         }
         requests = requests.saturating_add(report.requests);
     }
-    let counts = (served.reports.len(), requests);
+    let counts = (each_of(served).len(), requests);
     if served.accept_failed {
         None
     } else {
@@ -196,7 +215,7 @@ fn served_by_two<R: Threads + Wait + Sync>(
     gate: &Turnstile,
 ) -> Result<Option<(usize, u64)>, NoMemory> {
     let clock = FixedClock { ms: 0 };
-    let served = serve_all(rt, alloc, LIMITS, acceptor, &clock, gate, 2, 0)?;
+    let served = serve_all(rt, alloc, LIMITS, acceptor, &clock, gate, 2, 9)?;
     Ok(counts_of(&served))
 }
 
@@ -305,7 +324,7 @@ fn acceptor_of_three(alloc: Global) -> Result<OpenAcceptor, AllocError> {
 /// How many connections ended so, each having run one request.
 fn ended_so<A>(served: &Served<A>, ended: Ended) -> usize {
     let is_so = |report: &&Report| report.ended == ended && report.requests == 1;
-    served.reports.iter().filter(is_so).count()
+    each_of(served).iter().filter(is_so).count()
 }
 
 #[test]
@@ -317,9 +336,9 @@ fn a_shutdown_ends_the_workers_and_their_connections(rt: HostRuntime) -> Result<
         dropped: AtomicU64::new(0),
         gave_up: AtomicU64::new(0),
     };
-    let served = serve_all(&rt, rt.alloc(), LIMITS, acceptor, &clock, &gate, 2, 0)?;
+    let served = serve_all(&rt, rt.alloc(), LIMITS, acceptor, &clock, &gate, 2, 9)?;
     assert_eq!(rt; gate.gave_up.load(Ordering::SeqCst), 0);
-    assert_eq!(rt; (served.reports.len(), served.accept_failed), (2, false));
+    assert_eq!(rt; (each_of(&served).len(), served.accept_failed), (2, false));
     assert_eq!(rt; ended_so(&served, Ended::Stopped), 1);
     assert_eq!(rt; ended_so(&served, Ended::Dropped), 1);
     let mut acceptor = served.acceptor;
@@ -337,8 +356,35 @@ fn a_shutdown_ends_the_workers_that_wait(rt: HostRuntime) -> Result<(), Fail> {
         counts: Counts::new(),
     };
     let clock = FixedClock { ms: 0 };
-    let served = serve_all(&rt, rt.alloc(), LIMITS, acceptor, &clock, &OpenGate, 3, 0)?;
-    assert_eq!(rt; served.reports.len(), 1);
+    let served = serve_all(&rt, rt.alloc(), LIMITS, acceptor, &clock, &OpenGate, 3, 9)?;
+    assert_eq!(rt; each_of(&served).len(), 1);
     assert_eq!(rt; ended_so(&served, Ended::Dropped), 1);
+    Ok(())
+}
+
+/// How many connections ended by this number, and their requests, where totals were kept.
+fn total_of<A>(served: &Served<A>, end: u8) -> Option<EndTotal> {
+    match served.reports.kept() {
+        Kept::Each(_) => None,
+        Kept::Totals(totals) => {
+            let by_end = totals.by_end();
+            let found = by_end.iter().find(|(number, _)| *number == end);
+            found.map(|(_, total)| *total)
+        }
+    }
+}
+
+#[test]
+fn workers_join_their_totals(rt: HostRuntime) -> Result<(), Fail> {
+    let acceptor = acceptor_of(rt.alloc(), "GET a;,PING;QUIT;,GET a;GET b;,QUIT;,GET a;")?;
+    let clock = FixedClock { ms: 0 };
+    let served = serve_all(&rt, rt.alloc(), LIMITS, acceptor, &clock, &OpenGate, 3, 0)?;
+    for (end, connections, requests) in [(1, 3, 4), (2, 2, 3), (3, 0, 0), (9, 0, 0)] {
+        let want = EndTotal {
+            connections,
+            requests,
+        };
+        assert!(rt; total_of(&served, end) == Some(want), "{end}");
+    }
     Ok(())
 }

@@ -1,9 +1,12 @@
+pub mod WordBits
+pub mod Rosters
 pub mod Keeping
 pub mod Refusals
 pub mod Sendings
 pub mod Lives
 pub mod Endings
 pub mod Ended
+pub mod Walking
 pub mod Routing
 pub mod Remembered
 pub mod Groups

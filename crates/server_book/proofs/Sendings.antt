@@ -304,10 +304,6 @@ marked_at (id ∷ ids) i cs h some =
     ∙ ap (broken_if (id == i)) (marked_at ids i cs h.1 some)
     ∙ twice_broken (id == i) (has_id i ids) (connection_at cs i)
 
-pub one_marked : (cs : List Connection) (id : ℕ) (c new : Connection) → c ≡ connection_at cs id
-    → new ≡ lost_one c → slice_set cs (id - 1) new ≡ marked_one id cs
-one_marked cs id c new there is = ap (slice_set cs (id - 1)) (is ∙ ap lost_one there)
-
 -- a connection that is open stays so
 keeps_lost : (c : Connection) → is_open (lost_one c) ≡ is_open c
 keeps_lost c = elim (is_open c) as (λ b. is_open (cond b (record c { is_broken = true }) c)

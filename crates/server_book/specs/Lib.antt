@@ -3,6 +3,8 @@ pub mod Played
 pub mod RunSendings
 pub mod Log
 pub mod Places
+pub mod Roster
+pub mod Lending
 pub mod Connections
 pub mod Sendings
 pub mod Endings

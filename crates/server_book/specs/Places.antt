@@ -4,7 +4,7 @@ use Rattle.std.specs.Prelude.{if◌then◌else◌, is_some, Box, IfSome, Option,
 use Rattle.std.specs.declared.alloc.Global.{Global}
 use Rattle.track_modes.specs.ModeState.{ModeState, new_mode, redirect_of}
 use Rattle.serial_model.specs.declared.standing.Standing.{Standing}
-use Rattle.serial_model.specs.declared.standing.Standing.TheVariants.{Live, Quit}
+use Rattle.serial_model.specs.declared.standing.Standing.TheVariants.{Gone, Live, Quit, QuitClosed}
 use Rattle.serial_model.specs.State.{keeps_bytes, closed}
 use Rattle.server_book.specs.declared.connection.Open.{Open}
 use Rattle.server_book.specs.declared.connection.Queue.{Queue}
@@ -29,6 +29,15 @@ fresh = record { queue = []; standing = Live; mode = new_mode; is_broken = false
 -- how far it has ended is all that stays of a connection that is closed
 abbrev pub gone : Connection → Connection
 gone c = record fresh { standing = closed c.standing }
+
+-- one that is closed, and whether it quit before
+abbrev pub shut : Bool → Connection
+shut quit = record fresh { standing = if quit then QuitClosed else Gone }
+
+abbrev pub has_quit : Standing → Bool
+has_quit Quit = true
+has_quit QuitClosed = true
+has_quit _ = false
 
 -- at its end what one that quits has not taken can still be taken; another is closed
 abbrev pub ended_one : Bool → Connection → Connection

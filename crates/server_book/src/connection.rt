@@ -3,9 +3,9 @@ ghost use Rattle.std.specs.Prelude.{◌≡◌, ◌<◌, ◌^◌, ◌&&◌, ◌++
 ghost use Rattle.std.specs.Prelude.{IfSome, length, take, drop};
 ghost use Rattle.serial_model.specs.Actions.{spelled};
 ghost use Rattle.serial_model.specs.State as state;
-ghost use Rattle.serial_model.specs.State.{closed, keeps_bytes, may_take};
+ghost use Rattle.serial_model.specs.State.{keeps_bytes, may_take};
 ghost use Rattle.serial_model.specs.declared.standing.Standing.TheVariants.{Quit};
-ghost use Rattle.server_book.specs.Places.{HasNumber, bytes_in, ended_one, fresh, gone, lost_one};
+ghost use Rattle.server_book.specs.Places.{HasNumber, bytes_in, fresh, has_quit, lost_one, shut};
 ghost use Rattle.track_modes.specs.Commands.{spent_mode};
 ghost use Rattle.track_modes.specs.ModeState as track;
 
@@ -32,8 +32,7 @@ struct Open {
 }
 
 /// A connection: how far it has ended and, until it is closed, what its own runs made of it, the
-/// bytes that it was sent and has not taken, and whether its redirection is broken. Of one that is
-/// closed these 16 bytes stay.
+/// bytes that it was sent and has not taken, and whether its redirection is broken.
 #[derive(Drop)]
 pub struct Connection {
     standing: Standing,
@@ -54,15 +53,6 @@ fn is_live(standing: Standing) -> bool
     ensures { result ≡ state.is_live standing }
 {
     matches!(standing, Standing::Live)
-}
-
-fn closed(standing: Standing) -> Standing
-    ensures { result ≡ closed standing }
-{
-    match standing {
-        Standing::Live | Standing::Gone => Standing::Gone,
-        Standing::Quit | Standing::QuitClosed => Standing::QuitClosed,
-    }
 }
 
 fn is_tracking(mode: &Mode) -> bool
@@ -135,6 +125,28 @@ impl Connection {
             standing: Standing::Live,
             kept: Some(Box::new(alloc, open)?),
         })
+    }
+
+    /// One that is closed, which takes no memory.
+    pub fn shut(quit: bool) -> Connection
+        ensures { result ≡ shut quit }
+    {
+        let standing = if quit {
+            Standing::QuitClosed
+        } else {
+            Standing::Gone
+        };
+        Connection {
+            standing,
+            kept: None,
+        }
+    }
+
+    /// Whether it ended by its own QUIT.
+    pub fn has_quit(&self) -> bool
+        ensures { result ≡ has_quit self.now.standing }
+    {
+        matches!(self.standing, Standing::Quit | Standing::QuitClosed)
     }
 
     /// Whether it has not ended.
@@ -246,8 +258,8 @@ impl Connection {
         }
     }
 
-    // It ends by its own QUIT. What it has not taken can still be taken. It takes no memory.
-    fn quit(&mut self)
+    /// It ends by its own QUIT. What it has not taken can still be taken. It takes no memory.
+    pub fn quit(&mut self)
         requires { keeps_bytes self.old.standing ≡ true }
         ensures { self.new ≡ record self.old { standing = Quit } }
     {
@@ -321,26 +333,5 @@ impl Connection {
             Some(open) => open.add_value(alloc, proto, value),
             None => unreachable!(),
         }
-    }
-
-    /// It ends by a turn: one that quits keeps what it has not taken, and another is closed. It
-    /// takes no memory.
-    pub fn end(&mut self, quits: bool)
-        requires { keeps_bytes self.old.standing ≡ true }
-        ensures { self.new ≡ ended_one quits self.old }
-    {
-        if quits {
-            self.quit();
-        } else {
-            self.close();
-        }
-    }
-
-    /// It is closed, and gives up what it has not taken. It takes no memory.
-    pub fn close(&mut self)
-        ensures { self.new ≡ gone self.old }
-    {
-        self.kept = None;
-        self.standing = closed(self.standing);
     }
 }

@@ -21,6 +21,7 @@ ghost use Rattle.track_modes.specs.ModeState.{redirect_of};
 use super::connection::Connection;
 use super::ends::Ends;
 use super::messages::{message_like, push_of};
+use super::roster::Roster;
 use redirect::{Route, notice, route};
 use resp_value::{NoMemory, Octets, Proto, Value};
 use serial_model::{Post, Posted};
@@ -33,7 +34,7 @@ use track_modes::{Mode, Peer};
 #[derive(Drop)]
 pub struct Connections {
     alloc: Global,
-    items: Vec<Connection>,
+    items: Roster,
     posts: Vec<Post>,
     /// Those whose messages were due where the target of their redirection had ended, until the
     /// turn is settled.
@@ -51,14 +52,14 @@ impl Model for Connections {
     ghost Value = { ConnectionsState };
 
     ghost view = { λ c. record {
-      items = c.items.items;
+      items = c.items;
       posts = c.posts.items;
       lost = c.lost.items;
       drops = c.drops.items;
     } };
 
     ghost invariant = { λ c.
-        HoldsPosts c.items.items c.posts.items c.lost.items c.live
+        HoldsPosts c.items c.posts.items c.lost.items c.live
         (vec_capacity c.posts - vec_len c.posts) (vec_capacity c.drops - vec_len c.drops) };
 }
 
@@ -87,7 +88,7 @@ impl Connections {
     {
         Connections {
             alloc,
-            items: Vec::new(alloc),
+            items: Roster::new(alloc),
             posts: Vec::new(alloc),
             lost: Vec::new(alloc),
             drops: Vec::new(alloc),
@@ -138,7 +139,7 @@ impl Connections {
         if !self.is_there(id) {
             return false;
         }
-        self.items[(id - 1) as usize].is_live()
+        self.items.get((id - 1) as usize).is_live()
     }
 
     /// Whether it can still be closed.
@@ -148,7 +149,7 @@ impl Connections {
         if !self.is_there(id) {
             return false;
         }
-        self.items[(id - 1) as usize].reads()
+        self.items.get((id - 1) as usize).reads()
     }
 
     /// Whether it can still take.
@@ -158,7 +159,7 @@ impl Connections {
         if !self.is_there(id) {
             return false;
         }
-        self.items[(id - 1) as usize].gives()
+        self.items.get((id - 1) as usize).gives()
     }
 
     /// One more connection, with nothing to take.
@@ -180,7 +181,7 @@ impl Connections {
         ensures mode { result.now ≡ (connection_at self.now.items id).mode }
         ensures number { HasNumber result.now }
     {
-        self.items[(id - 1) as usize].mode()
+        self.items.get((id - 1) as usize).mode()
     }
 
     pub fn set_mode(&mut self, id: u64, mode: Mode)
@@ -190,7 +191,7 @@ impl Connections {
             let items = with_connection self.old.items id (record c { mode = mode }) in
             self.new ≡ record self.old { items = items } }
     {
-        let connection = &mut self.items[(id - 1) as usize];
+        let connection = self.items.open_mut((id - 1) as usize);
         connection.set_mode(mode);
     }
 
@@ -204,7 +205,7 @@ impl Connections {
             let items = with_connection self.old.items id renewed in
             self.new ≡ record self.old { items = items } }
     {
-        let connection = &mut self.items[(id - 1) as usize];
+        let connection = self.items.open_mut((id - 1) as usize);
         connection.set_mode(mode);
         connection.mend();
     }
@@ -217,7 +218,7 @@ impl Connections {
             let items = with_connection self.old.items id spent in
             self.new ≡ record self.old { items = items } }
     {
-        let connection = &mut self.items[(id - 1) as usize];
+        let connection = self.items.open_mut((id - 1) as usize);
         connection.spend();
     }
 
@@ -226,7 +227,7 @@ impl Connections {
         requires { IsId self.now.items id }
         ensures { result ≡ passed_over self.now.items id }
     {
-        if self.items[(id - 1) as usize].is_noloop() {
+        if self.items.get((id - 1) as usize).is_noloop() {
             Some(id)
         } else {
             None
@@ -238,7 +239,7 @@ impl Connections {
         requires { IsId self.now.items id }
         ensures { result ≡ length (connection_at self.now.items id).queue }
     {
-        self.items[(id - 1) as usize].size()
+        self.items.get((id - 1) as usize).size()
     }
 
     /// The first bytes that the connection has not taken, at most so many.
@@ -246,7 +247,7 @@ impl Connections {
         requires { IsId self.now.items id }
         ensures { IfOk result (λ o. o ≡ take most (connection_at self.now.items id).queue) }
     {
-        self.items[(id - 1) as usize].front(self.alloc, most)
+        self.items.get((id - 1) as usize).front(self.alloc, most)
     }
 
     /// Drops the first bytes that the connection has not taken, at most so many.
@@ -257,8 +258,7 @@ impl Connections {
             let items = with_connection self.old.items id left in
             self.new ≡ record self.old { items = items } }
     {
-        let connection = &mut self.items[(id - 1) as usize];
-        connection.advance(most);
+        self.items.advance((id - 1) as usize, most);
     }
 
     /// Sends a value: its spelling goes behind the bytes that the connection has not taken.
@@ -273,7 +273,7 @@ impl Connections {
         ensures err { OnErr result (self.new ≡ self.old) }
     {
         self.posts.reserve(self.live + 1)?;
-        let connection = &mut self.items[(to - 1) as usize];
+        let connection = self.items.open_mut((to - 1) as usize);
         let length = connection.add_value(self.alloc, proto, value)?;
         self.posts.push_reserved(Post {
             entry,
@@ -288,9 +288,10 @@ impl Connections {
         ensures { IfOk result (λ ids. ids.items ≡ tracking_ids self.now.items) }
     {
         let mut ids = Vec::new(alloc);
-        for (place, connection) in self.items.iter().enumerate() {
-            if connection.tracks() {
-                ids.push(place as u64 + 1)?;
+        let places = self.items.places();
+        for (nth, place) in places.iter().enumerate() {
+            if self.items.get(*place).tracks() {
+                ids.push(*place as u64 + 1)?;
             }
         }
         Ok(ids)
@@ -303,7 +304,7 @@ impl Connections {
         match id {
             Some(id) => {
                 if self.is_live(id) {
-                    Some(self.items[(id - 1) as usize].mode().peer())
+                    Some(self.items.get((id - 1) as usize).mode().peer())
                 } else {
                     None
                 }
@@ -318,7 +319,7 @@ impl Connections {
         ensures number { IfSome result (λ r. r < 2 ^ 63) }
     {
         if self.is_live(id) {
-            self.items[(id - 1) as usize].target()
+            self.items.get((id - 1) as usize).target()
         } else {
             None
         }
@@ -339,7 +340,7 @@ impl Connections {
         requires { IsId self.now.items id }
         ensures { result ≡ (connection_at self.now.items id).is_broken }
     {
-        self.items[(id - 1) as usize].is_broken()
+        self.items.get((id - 1) as usize).is_broken()
     }
 
     /// Whether the connection was found lost, which is not settled yet.
@@ -358,7 +359,7 @@ impl Connections {
         if !self.is_live(id) {
             return Route::Nowhere;
         }
-        let mode = self.items[(id - 1) as usize].mode();
+        let mode = self.items.get((id - 1) as usize).mode();
         route(mode, id, self.peer(self.target(id)))
     }
 
@@ -523,8 +524,7 @@ impl Connections {
         ensures { self.new ≡ lost_marked self.old }
     {
         'lost: while let Some(id) = self.lost.pop() {
-            let connection = &mut self.items[(id - 1) as usize];
-            connection.lose();
+            self.items.lose((id - 1) as usize);
         }
     }
 
@@ -541,11 +541,11 @@ impl Connections {
         self.lost.clear();
         self.drops.clear();
         'posts: while let Some(post) = self.posts.pop() {
-            let connection = &mut self.items[(post.id - 1) as usize];
+            let place = (post.id - 1) as usize;
             let size = size_of(post.what) as usize;
-            let held = connection.size();
+            let held = self.items.get(place).size();
             let left = held.saturating_sub(size);
-            connection.keep(left);
+            self.items.keep(place, left);
         }
     }
 
@@ -560,9 +560,9 @@ impl Connections {
               posts = end_posts entry id c.standing;
             } }
     {
-        let connection = &mut self.items[(id - 1) as usize];
-        let was_live = connection.is_live();
-        connection.close();
+        let place = (id - 1) as usize;
+        let was_live = self.items.get(place).is_live();
+        self.items.close(place);
         if was_live {
             self.live -= 1;
             self.posts.push_reserved(Post {
@@ -578,7 +578,7 @@ impl Connections {
         requires { IsId self.now.items id }
         ensures { result ≡ is_past limit self.now.items id }
     {
-        self.items[(id - 1) as usize].size() as u64 > limit
+        self.items.get((id - 1) as usize).size() as u64 > limit
     }
 
     // Whether the connection is one of those whom a turn ends.
@@ -586,7 +586,7 @@ impl Connections {
         requires { IsId self.now.items id }
         ensures { result ≡ is_ending ends self.now.items id }
     {
-        self.items[(id - 1) as usize].is_live()
+        self.items.get((id - 1) as usize).is_live()
             && (ends.quits(id) || ends.stops || self.is_past(ends.limit, id))
     }
 
@@ -628,8 +628,7 @@ impl Connections {
             return false;
         }
         let quits = ends.quits(id);
-        let connection = &mut self.items[(id - 1) as usize];
-        connection.end(quits);
+        self.items.end((id - 1) as usize, quits);
         self.live -= 1;
         self.posts.push_reserved(Post {
             entry,

@@ -1,6 +1,7 @@
 //! The server's state, one turn at a time.
 #![tactic(auto)]
 
+mod bits;
 mod book;
 mod connection;
 mod connection_plan;
@@ -11,6 +12,7 @@ mod hello;
 mod log;
 mod messages;
 mod plan;
+mod roster;
 mod stores;
 mod subscription;
 mod tracking_info;

@@ -1,44 +1,42 @@
--- Several requests of a connection and the Take behind them, in one batch or a turn each.
+-- Several requests of a connection and the Take behind them, in one batch.
 use Rattle.std.proofs.Common.{◌≡◌, ◌≤◌, ◌<◌, ◌+◌, ℕ, suc, List, [], ◌∷◌, ◌++◌, length, take, true}
 use Rattle.std.proofs.Common.{refl, sym, ap, subst, ◌∙◌, arith, Some, None, length-append}
-use Rattle.std.proofs.Common.{append-nil, append_assoc, false, ne_eqb}
-use Rattle.std.specs.Prelude.{Option, Ok, IfOk, IfErr}
+use Rattle.std.proofs.Common.{append-nil, append_assoc, false, inl, inr, ne_eqb}
+use Rattle.std.specs.Prelude.{Option}
 use Rattle.std.specs.List.{All}
-use Rattle.std.proofs.lemmas.List.{take-append-le, take_all}
-use Rattle.std.proofs.lemmas.Result.{IfOk-weaker, IfErr-weaker}
 use Rattle.std.proofs.lemmas.List.Elements.{All-nil, All-cons, All-head, All-tail}
 use Rattle.turn_lock.specs.History.{IsPrefix, history_after, own_after}
 use Rattle.turn_lock.specs.Seats.{IsSameSeat, Turned, TurnedAll, StopsAt}
-use Rattle.turn_lock.specs.Batches.{IsUnplayed}
-use Rattle.turn_lock.specs.declared.lock.Unplayed.{Unplayed}
-use Rattle.turn_lock.specs.declared.lock.Unplayed.TheVariants as unplayed
 use Rattle.turn_lock.proofs.Turns.{drawn_before}
 use Rattle.serial_model.specs.declared.history.Limits.{Limits}
 use Rattle.serial_model.specs.declared.history.Entry.{Entry}
 use Rattle.serial_model.specs.declared.history.BookCall.{BookCall}
 use Rattle.serial_model.specs.declared.history.BookCall.TheVariants.{Run, Take}
-use Rattle.serial_model.specs.declared.history.BookReply.{BookReply}
 use Rattle.serial_model.specs.declared.history.BookReply.TheVariants.{Admitted, Ran, Ticked, Quiet}
 use Rattle.serial_model.specs.declared.history.BookReply.TheVariants.{Bytes, Closed, Refused}
 use Rattle.serial_model.specs.declared.history.BookRefusal.{BookRefusal}
 use Rattle.serial_model.specs.History.{gives_on, is_admitted, runs_on}
-use Rattle.seat_turns.specs.Own.{past_of, IsWithin, Within, Grows}
-use Rattle.seat_turns.specs.Turns.{Plays}
+use Rattle.turn_lock.specs.Own.{past_of, IsWithin, Within, Grows}
+use Rattle.turn_lock.specs.Turns.{Plays}
 use Rattle.resp_value.specs.declared.octets.Octets.{Octets}
-use Rattle.shared_book.specs.Turns.{May, Place, TurnStep, Runs, Takes, IsCause, Refuses, limits_in}
-use Rattle.shared_book.specs.Turns.{limits_of, most}
+use Rattle.shared_book.specs.Turns.{May, Place, TurnStep, Runs, Takes, IsCause}
+use Rattle.shared_book.specs.Turns.{limits_in, limits_of, most}
+use Rattle.shared_book.specs.declared.logged.Answer.{Answer}
+use Rattle.shared_book.specs.declared.logged.Answer.TheVariants.{Told, Held}
 use Rattle.shared_book.specs.declared.turns.Refusal.{Refusal}
 use Rattle.shared_book.specs.declared.turns.Refusal.TheVariants as refusal
-use Rattle.shared_book.specs.declared.batch.Batch.{Batch}
+use Rattle.shared_book.specs.declared.batch.BatchEnd.{BatchEnd}
+use Rattle.shared_book.specs.declared.batch.BatchEnd.TheVariants as ends
 use Rattle.shared_book.specs.Batches.{IsRunAt, requests_in, RunsEach, RunsAndTakes, RunsFirst}
-use Rattle.shared_book.specs.Batches.{refusal_by, ran_in, taken_in, IsOfBatch, adds_none, Counts}
-use Rattle.seat_turns.proofs.Owning.{within_begins}
-use Rattle.seat_turns.proofs.Turning.{plays, begins_trans, grows_worn}
-use Rattle.seat_turns.proofs.Growing.{grows_none, grows_then, grows_past}
+use Rattle.shared_book.specs.Batches.{HoldsBack, EndsSo, refusal_by, ran_in, IsOfRun, IsOfTake}
+use Rattle.shared_book.specs.Batches.{Counts, IsLast, Tells, ends_batch}
+use Rattle.turn_lock.proofs.Owning.{within_begins}
+use Rattle.turn_lock.proofs.Turning.{plays}
+use Rattle.turn_lock.proofs.Growing.{grows_none, grows_then, grows_past}
 use Rattle.shared_book.proofs.Histories.{begins_lift, admitted_more, runs_off}
 use Rattle.shared_book.proofs.Histories.{no_runs_ungiven}
 use Rattle.shared_book.proofs.Outcomes.{entries_long, never, runs, run_number, gives, rests}
-use Rattle.shared_book.proofs.Outcomes.{run_refuses, take_refuses}
+use Rattle.shared_book.proofs.Outcomes.{plays_one, run_refuses, take_refuses}
 
 -- ---- the turns of a batch
 
@@ -67,18 +65,18 @@ cause_more may id lasts refusal.Worn k l on g h = omega (arith, h, g.tickets)
 cause_more may id lasts refusal.Stopped k l on g h = absurd h
 
 -- one that may take nothing runs nothing
-ungiven_unrun : (id : ℕ) (e : Refusal) (k : Place) → IsCause gives_on id e k
+pub ungiven_unrun : (id : ℕ) (e : Refusal) (k : Place) → IsCause gives_on id e k
     → IsCause runs_on id e k
 ungiven_unrun id refusal.Dropped k h = no_runs_ungiven (limits_of k) id (past_of k) h
 ungiven_unrun id refusal.NoMemory k h = h
 ungiven_unrun id refusal.Worn k h = h
 ungiven_unrun id refusal.Stopped k h = h
 
-grows_into : (a b c : Place) → Grows a b [] → Grows b c [] → Grows a c []
+pub grows_into : (a b c : Place) → Grows a b [] → Grows b c [] → Grows a c []
 grows_into a b c p q = grows_then a b c [] [] p q
 
 -- a refusal is nothing to what ran before
-each_then : (id now : ℕ) (ws : List (List (List ℕ))) (a b c : Place) → RunsEach id now ws a b
+pub each_then : (id now : ℕ) (ws : List (List (List ℕ))) (a b c : Place) → RunsEach id now ws a b
     → Grows b c [] → RunsEach id now ws a c
 each_then id now [] a b c h g = grows_into a b c h g
 each_then id now (w ∷ ws) a b c (mid, run, rest) g =
@@ -88,17 +86,17 @@ with_tickets : Place → ℕ → Place
 with_tickets k t = record k { tickets = t }
 
 module _ (id now : ℕ) where
-  rest_of : (calls : List BookCall) (replies : List BookReply) (next after : Place) (t : ℕ)
-      → TurnedAll TurnStep calls replies next after
-      → TurnedAll TurnStep calls replies (with_tickets next t) after
+  rest_of : (calls : List BookCall) (answers : List Answer) (next after : Place) (t : ℕ)
+      → TurnedAll TurnStep calls answers next after
+      → TurnedAll TurnStep calls answers (with_tickets next t) after
   unfolding with_tickets
-  rest_of calls replies next after t is =
-      drawn_before TurnStep calls replies (record next { tickets = t }) after next.tickets
+  rest_of calls answers next after t is =
+      drawn_before TurnStep calls answers (record next { tickets = t }) after next.tickets
       next.turns is
 
-  on_at : (k l : Place) (call : BookCall) (reply : BookReply) → Plays TurnStep call reply k l
+  on_at : (k l : Place) (call : BookCall) (answer : Answer) → Plays TurnStep call answer k l
       → is_admitted (past_of k) id ≡ true → is_admitted (past_of l) id ≡ true
-  on_at k l call reply p on =
+  on_at k l call answer p on =
       begins_lift (λ past. is_admitted past id ≡ true) (admitted_more id) (past_of k) (past_of l)
       (grows_past k l _ p.grows) on
 
@@ -108,38 +106,29 @@ module _ (id now : ℕ) where
   less_at next after t le = le
 
   -- the last turn of a batch
-  last_plays : (call : BookCall) (reply : BookReply) (k next after : Place) → IsWithin k
-      → k.tickets ≤ after.tickets → IsSameSeat k next → Turned TurnStep call reply k next
+  last_plays : (call : BookCall) (answer : Answer) (k next after : Place) → IsWithin k
+      → k.tickets ≤ after.tickets → IsSameSeat k next → Turned TurnStep call answer k next
       → IsSameSeat next after → after.seen ≡ next.seen → after.own ≡ next.own
-      → Plays TurnStep call reply k after
+      → Plays TurnStep call answer k after
   unfolding IsWithin
-  last_plays call reply k next after is le one turn two seen own =
+  last_plays call answer k next after is le one turn two seen own =
       let (u, h, e, has, begins, step, ends, owns) = turn in
       let here = seen ∙ ends in
       let mine = own ∙ owns in
-      plays TurnStep call reply k after is
+      plays TurnStep call answer k after is
       (subst (λ (z : List (ℕ × Entry) × List ℕ). Within z.0 z.1) (λ i. (sym here i, sym mine i))
       (within_turn k.number k.seen h k.own e begins is))
       (two.0 ∙ one.0) (two.1 ∙ one.1) (two.4 ∙ one.4) le
       (u, h, e, has, begins, step, here, mine)
 
   -- one turn of the batch, at a place whose tickets are those before it
-  one_plays : (call : BookCall) (reply : BookReply) (k next : Place) → IsWithin k
-      → IsSameSeat k next → Turned TurnStep call reply k next
-      → Plays TurnStep call reply k (with_tickets next k.tickets)
+  one_plays : (call : BookCall) (answer : Answer) (k next : Place) → IsWithin k
+      → IsSameSeat k next → Turned TurnStep call answer k next
+      → Plays TurnStep call answer k (with_tickets next k.tickets)
   unfolding with_tickets
-  one_plays call reply k next is same turn =
-      last_plays call reply k next (record next { tickets = k.tickets }) is (omega arith) same turn
+  one_plays call answer k next is same turn =
+      last_plays call answer k next (record next { tickets = k.tickets }) is (omega arith) same turn
       (refl, refl, refl, refl, refl) refl refl
-
-  -- what was taken of a Quiet adds none, and no Run is Quiet
-  passed : (call : BookCall) (reply : BookReply) (k l : Place)
-      → (Plays TurnStep call Quiet k l → Grows k l [])
-      → ((r : BookRefusal) → Plays TurnStep call (Refused r) k l → Grows k l [])
-      → Plays TurnStep call reply k l → adds_none reply ≡ true → Grows k l [] × IsOfBatch reply
-  passed call Quiet k l quiet refused p h = (quiet p, tt)
-  passed call (Refused r) k l quiet refused p h = (refused r p, tt)
-  passed call reply k l quiet refused p h = absurd (let no : ⊥ = cc in no)
 
   -- a call that runs a request here
   pub by_run : (P : BookCall → Type 0) (call : BookCall) → IsRunAt id now call
@@ -159,55 +148,182 @@ module _ (id now : ℕ) where
       by_run (λ c. c ∷ calls ≡ runs_at (requests_in (c ∷ calls))) call
       (All-head (IsRunAt id now) call calls runs) (λ words. ap (λ z. Run id words now ∷ z) rest)
 
+  requests_at : (ws : List (List (List ℕ))) → requests_in (runs_at ws) ≡ ws
+  unfolding runs_at
+  requests_at [] = refl
+  requests_at (w ∷ ws) = ap (λ z. w ∷ z) (requests_at ws)
+
+  all_at : (ws : List (List (List ℕ))) → All (IsRunAt id now) (runs_at ws)
+  unfolding runs_at
+  all_at [] = All-nil (IsRunAt id now)
+  all_at (w ∷ ws) =
+      All-cons (IsRunAt id now) (Run id w now) (runs_at ws) (refl, refl) (all_at ws)
+
   -- the turns of a batch
-  IsPlayed : List (List (List ℕ)) → List BookReply → Place → Place → Type 0
-  IsPlayed requests replies k after =
-      TurnedAll TurnStep (runs_at requests ++ Take id most ∷ []) replies k after
+  IsPlayed : List (List (List ℕ)) → List Answer → Place → Place → Type 0
+  IsPlayed requests answers k after =
+      TurnedAll TurnStep (runs_at requests ++ Take id most ∷ []) answers k after
+
+  -- ---- behind an answer that ended the batch
+
+  -- these come back, or the batch ended by a refusal
+  abbrev Returns : List BookCall → BatchEnd → Place → Type 0
+  Returns back (ends.Taken front) after = ⊥
+  Returns back (ends.Held calls) after = calls.items ≡ back
+  Returns back (ends.Refused cause) after = IsCause runs_on id cause after
+
+  returns_as : (a b : List BookCall) (end : BatchEnd) (after : Place) → a ≡ b
+      → Returns a end after → Returns b end after
+  returns_as a b end after is r = subst (λ z. Returns z end after) is r
+
+  returns_none : (back : List BookCall) (end : BatchEnd) (after : Place)
+      → end ≡ ends.Refused refusal.NoMemory → Returns back end after
+  returns_none back end after is = subst (λ z. Returns back z after) (sym is) tt
+
+  returns_last : (back : List BookCall) (answer : Answer) (end : BatchEnd) (after : Place)
+      → 0 < length back → IsLast back answer end → Returns (back ++ []) end after
+  returns_last [] answer end after some h = absurd (omega arith)
+  returns_last (b ∷ back) answer (ends.Taken front) after some h = absurd h
+  returns_last (b ∷ back) answer (ends.Held calls) after some h =
+      h ∙ sym (append-nil (b ∷ back))
+  returns_last (b ∷ back) answer (ends.Refused cause) after some h =
+      subst (λ z. IsCause runs_on id z after) (sym h) tt
+
+  record Passed (requests : List (List (List ℕ))) (answers : List Answer) (last : Answer)
+      (k after : Place) : Type 0 where
+    pub grows : Grows k after []
+    pub are : All IsOfRun answers
+    pub last_is : IsOfTake last
+    pub counts : (count : ℕ) → Counts count answers
+    pub none : ran_in answers ≡ 0
+    pub told : (back : List BookCall) (end : BatchEnd) → 0 < length back
+        → Tells back answers last end → Returns (back ++ runs_at requests) end after
+
+  -- a Take that was passed
+  take_passed : (answer : Answer) (k l : Place) → Plays TurnStep (Take id most) answer k l
+      → ends_batch answer ≡ true → Grows k l [] × IsOfTake answer
+  take_passed (Told Quiet) k l p h =
+      ((rests k l id most (omega arith) (plays_one (Take id most) (Told Quiet) k l p)).grows, tt)
+  take_passed (Told (Refused r)) k l p h =
+      ((take_refuses k l id most r (plays_one (Take id most) (Told (Refused r)) k l p)).grows, tt)
+  take_passed (Held back) k l p h =
+      absurd (let no : false ≡ true = p.did.1 in cc)
+  take_passed (Told (Admitted n i)) k l p h = absurd (let no : ⊥ = cc in no)
+  take_passed (Told (Ran n)) k l p h = absurd (let no : ⊥ = cc in no)
+  take_passed (Told (Ticked n)) k l p h = absurd (let no : ⊥ = cc in no)
+  take_passed (Told (Bytes n bytes)) k l p h = absurd (let no : ⊥ = cc in no)
+  take_passed (Told (Closed n)) k l p h = absurd (let no : ⊥ = cc in no)
+
+  -- the first of them came back, or was refused, and the others were passed
+  passed_more : (words : List (List ℕ)) (requests : List (List (List ℕ))) (answer : Answer)
+      (answers : List Answer) (last : Answer) (k l after : Place)
+      → Plays TurnStep (Run id words now) answer k l → is_admitted (past_of k) id ≡ true
+      → ends_batch answer ≡ true → Passed requests answers last l after
+      → Passed (words ∷ requests) (answer ∷ answers) last k after
+  unfolding runs_at Lasts
+  passed_more words requests (Held back) answers last k l after p on h t =
+      let one = plays_one (Run id words now) (Held back) k l p in
+      record {
+        grows = grows_into k l after one.2 t.grows;
+        are = All-cons IsOfRun (Held back) answers tt t.are;
+        last_is = t.last_is;
+        counts = λ count. t.counts count;
+        none = t.none;
+        told = λ front end some says.
+            elim says [
+              | inl more ↦ returns_as ((front ++ back ∷ []) ++ runs_at requests)
+                  (front ++ Run id words now ∷ runs_at requests) end after
+                  (append_assoc front (back ∷ []) (runs_at requests)
+                  ∙ ap (λ z. front ++ z ∷ runs_at requests) one.0)
+                  (t.told (front ++ back ∷ []) end
+                  (omega (arith, length-append front (back ∷ []))) more)
+              | inr none ↦ returns_none (front ++ Run id words now ∷ runs_at requests) end after
+                  none
+            ];
+      }
+  passed_more words requests (Told (Refused r)) answers last k l after p on h t =
+      let one = run_refuses k l id words now r
+      (plays_one (Run id words now) (Told (Refused r)) k l p) in
+      let there = on_at k l (Run id words now) (Told (Refused r)) p on in
+      let cause = cause_more runs_on id (λ m e past. runs_off m id e past) (refusal_by r) l after
+      there t.grows one.cause_is in
+      record {
+        grows = grows_into k l after one.grows t.grows;
+        are = All-cons IsOfRun (Told (Refused r)) answers tt t.are;
+        last_is = t.last_is;
+        counts = λ count. tt;
+        none = refl;
+        told = λ front end some says.
+            subst (λ z. Returns (front ++ Run id words now ∷ runs_at requests) z after)
+            (sym says) cause;
+      }
+  passed_more words requests (Told Quiet) answers last k l after p on h t =
+      absurd (never k l (Run id words now) Quiet
+      (plays_one (Run id words now) (Told Quiet) k l p) refl)
+  passed_more words requests (Told (Admitted n i)) answers last k l after p on h t =
+      absurd (let no : ⊥ = cc in no)
+  passed_more words requests (Told (Ran n)) answers last k l after p on h t =
+      absurd (let no : ⊥ = cc in no)
+  passed_more words requests (Told (Ticked n)) answers last k l after p on h t =
+      absurd (let no : ⊥ = cc in no)
+  passed_more words requests (Told (Bytes n bytes)) answers last k l after p on h t =
+      absurd (let no : ⊥ = cc in no)
+  passed_more words requests (Told (Closed n)) answers last k l after p on h t =
+      absurd (let no : ⊥ = cc in no)
 
   -- behind an answer that added no entry, none is added
-  all_passed : (requests : List (List (List ℕ))) (replies : List BookReply) (k after : Place)
-      → IsWithin k → is_admitted (past_of k) id ≡ true → k.tickets ≤ after.tickets
-      → IsPlayed requests replies k after → All (λ r. adds_none r ≡ true) replies
-      → Grows k after [] × All IsOfBatch replies
+  all_passed : (requests : List (List (List ℕ))) (answers : List Answer) (last : Answer)
+      (k after : Place) → IsWithin k → is_admitted (past_of k) id ≡ true
+      → k.tickets ≤ after.tickets → IsPlayed requests (answers ++ last ∷ []) k after
+      → All (λ r. ends_batch r ≡ true) (answers ++ last ∷ [])
+      → Passed requests answers last k after
   unfolding runs_at IsPlayed
-  all_passed [] [] k after is on le t all = absurd t
-  all_passed [] (reply ∷ []) k after is on le t all =
+  all_passed [] [] last k after is on le t all =
       let (next, one, turn, two) = t in
-      let did = passed (Take id most) reply k after
-      (λ p. (rests k after id most (omega arith) p).grows)
-      (λ r p. (take_refuses k after id most r p).grows)
-      (last_plays (Take id most) reply k next after is le one turn two.0 two.1 two.2)
-      (All-head (λ x. adds_none x ≡ true) reply [] all) in
-      (did.0, All-cons IsOfBatch reply [] did.1 (All-nil IsOfBatch))
-  all_passed [] (reply ∷ more ∷ replies) k after is on le t all =
+      let did = take_passed last k after
+      (last_plays (Take id most) last k next after is le one turn two.0 two.1 two.2)
+      (All-head (λ x. ends_batch x ≡ true) last [] all) in
+      record {
+        grows = did.0;
+        are = All-nil IsOfRun;
+        last_is = did.1;
+        counts = λ count. tt;
+        none = refl;
+        told = λ back end some says. returns_last back last end after some says;
+      }
+  all_passed [] (answer ∷ []) last k after is on le t all =
       let (next, one, turn, two) = t in absurd two
-  all_passed (words ∷ requests) [] k after is on le t all = absurd t
-  all_passed (words ∷ requests) (reply ∷ replies) k after is on le t all =
+  all_passed [] (answer ∷ more ∷ answers) last k after is on le t all =
+      let (next, one, turn, two) = t in absurd two
+  all_passed (words ∷ []) [] last k after is on le t all =
+      let (next, one, turn, two) = t in absurd two
+  all_passed (words ∷ more ∷ requests) [] last k after is on le t all =
+      let (next, one, turn, two) = t in absurd two
+  all_passed (words ∷ requests) (answer ∷ answers) last k after is on le t all =
       let (next, same, turn, rest) = t in
       let call = Run id words now in
       let l = with_tickets next k.tickets in
-      let p = one_plays call reply k next is same turn in
-      let one = passed call reply k l (λ q. absurd (never k l call Quiet q refl))
-      (λ r q. (run_refuses k l id words now r q).grows) p
-      (All-head (λ x. adds_none x ≡ true) reply replies all) in
-      let more = all_passed requests replies l after one.0.within (on_at k l call reply p on)
+      let p = one_plays call answer k next is same turn in
+      passed_more words requests answer answers last k l after p on
+      (All-head (λ x. ends_batch x ≡ true) answer (answers ++ last ∷ []) all)
+      (all_passed requests answers last l after p.grows.within (on_at k l call answer p on)
       (less_at next after k.tickets le)
-      (rest_of (runs_at requests ++ Take id most ∷ []) replies next after k.tickets rest)
-      (All-tail (λ x. adds_none x ≡ true) reply replies all) in
-      (grows_into k l after one.0 more.0, All-cons IsOfBatch reply replies one.1 more.1)
+      (rest_of (runs_at requests ++ Take id most ∷ []) (answers ++ last ∷ []) next after k.tickets
+      rest)
+      (All-tail (λ x. ends_batch x ≡ true) answer (answers ++ last ∷ []) all))
 
-  -- what the replies of a batch tell
-  pub record Told (requests : List (List (List ℕ))) (replies : List BookReply) (k after : Place)
-      : Type 0 where
-    pub ok : IfOk (taken_in replies) (λ front. (count : ℕ) → count ≤ length k.seen
-        → RunsAndTakes id now count requests (count + ran_in replies) front k after)
-    pub err : IfErr (taken_in replies) (λ e. (count : ℕ)
-        → RunsFirst id now count requests (count + ran_in replies) e k after)
-    pub are : All IsOfBatch replies
-    pub counts : (count : ℕ) → count ≤ length k.seen → Counts count replies
+  -- ---- what the answers tell
+
+  pub record ToldAll (requests : List (List (List ℕ))) (answers : List Answer) (last : Answer)
+      (k after : Place) : Type 0 where
+    pub end_is : (end : BatchEnd) → Tells [] answers last end → (count : ℕ) → count ≤ length k.seen
+        → EndsSo id now count requests (count + ran_in answers) end k after
+    pub are : All IsOfRun answers
+    pub last_is : IsOfTake last
+    pub counts : (count : ℕ) → count ≤ length k.seen → Counts count answers
 
   -- a Run makes the history longer
-  seen_longer : (words : List (List ℕ)) (k l : Place) → Runs id words now k l
+  pub seen_longer : (words : List (List ℕ)) (k l : Place) → Runs id words now k l
       → length k.seen < length l.seen
   seen_longer words k l r = grind (arith, length-append, entries_long)
 
@@ -216,6 +332,20 @@ module _ (id now : ℕ) where
       → RunsAndTakes id now (suc count) requests (suc count + ran) front l after
       → RunsAndTakes id now count (words ∷ requests) (count + suc ran) front k after
   all_more words requests count ran front k l after run h = grind arith
+
+  back_more : (words : List (List ℕ)) (requests : List (List (List ℕ))) (count ran : ℕ)
+      (back : List BookCall) (k l after : Place) → Runs id words now k l
+      → HoldsBack id now (suc count) requests (suc count + ran) back l after
+      → HoldsBack id now count (words ∷ requests) (count + suc ran) back k after
+  back_more words requests count ran back k l after run h = record {
+    first = words ∷ h.first;
+    parts = ap (λ z. words ∷ z) h.parts;
+    each = (l, run, h.each);
+    counted = omega (arith, h.counted);
+    fits = omega (arith, h.fits);
+    runs = h.runs;
+    some = h.some;
+  }
 
   first_more : (words : List (List ℕ)) (requests : List (List (List ℕ))) (count ran : ℕ)
       (e : Refusal) (k l after : Place) → Runs id words now k l
@@ -230,280 +360,281 @@ module _ (id now : ℕ) where
     take_is = λ all. h.take_is (omega (arith, all));
   }
 
+  ends_more : (words : List (List ℕ)) (requests : List (List (List ℕ))) (count ran : ℕ)
+      (end : BatchEnd) (k l after : Place) → Runs id words now k l
+      → EndsSo id now (suc count) requests (suc count + ran) end l after
+      → EndsSo id now count (words ∷ requests) (count + suc ran) end k after
+  ends_more words requests count ran (ends.Taken front) k l after run h =
+      all_more words requests count ran front k l after run h
+  ends_more words requests count ran (ends.Held calls) k l after run h =
+      back_more words requests count ran calls.items k l after run h
+  ends_more words requests count ran (ends.Refused e) k l after run h =
+      first_more words requests count ran e k l after run h
+
   told_ran : (m : ℕ) (words : List (List ℕ)) (requests : List (List (List ℕ)))
-      (replies : List BookReply) (k l after : Place) → m ≡ length l.seen → Runs id words now k l
-      → Told requests replies l after → Told (words ∷ requests) (Ran m ∷ replies) k after
-  told_ran m words requests replies k l after number run t =
+      (answers : List Answer) (last : Answer) (k l after : Place) → m ≡ length l.seen
+      → Runs id words now k l → ToldAll requests answers last l after
+      → ToldAll (words ∷ requests) (Told (Ran m) ∷ answers) last k after
+  told_ran m words requests answers last k l after number run t =
       let longer = seen_longer words k l run in
       record {
-        ok = IfOk-weaker (taken_in replies) _ _ (λ front h count le.
-            all_more words requests count (ran_in replies) front k l after run
-            (h (suc count) (omega (arith, le, longer)))) t.ok;
-        err = IfErr-weaker (taken_in replies) _ _ (λ e h count.
-            first_more words requests count (ran_in replies) e k l after run (h (suc count))) t.err;
-        are = All-cons IsOfBatch (Ran m) replies tt t.are;
-        counts = grind arith;
+        end_is = λ end h count le.
+            ends_more words requests count (ran_in answers) end k l after run
+            (t.end_is end h (suc count) (omega (arith, le, longer)));
+        are = All-cons IsOfRun (Told (Ran m)) answers tt t.are;
+        last_is = t.last_is;
+        counts = λ count le. (
+          omega (arith, le, longer, number),
+          t.counts (suc count) (omega (arith, le, longer)),
+        );
       }
 
-  told_refused : (r : BookRefusal) (requests : List (List (List ℕ))) (replies : List BookReply)
-      (k after : Place) → Grows k after [] → IsCause runs_on id (refusal_by r) after
+  -- none ran
+  none_first : (requests : List (List (List ℕ))) (count ran : ℕ) (e : Refusal) (k after : Place)
+      → ran ≡ 0 → Grows k after [] → IsCause runs_on id e after
+      → (0 ≡ length requests → IsCause gives_on id e after)
+      → RunsFirst id now count requests (count + ran) e k after
+  none_first requests count ran e k after zero none run take = record {
+    number = 0;
+    counted = omega (arith, zero);
+    within = omega arith;
+    each = none;
+    cause_is = run;
+    take_is = take;
+  }
+
+  told_refused : (r : BookRefusal) (requests : List (List (List ℕ))) (answers : List Answer)
+      (last : Answer) (k after : Place) → Grows k after [] → IsCause runs_on id (refusal_by r) after
       → (0 ≡ length requests → IsCause gives_on id (refusal_by r) after)
-      → All IsOfBatch replies → Told requests (Refused r ∷ replies) k after
-  told_refused r requests replies k after none run take are = record {
-    ok = tt;
-    err = λ count. record {
-      number = 0;
-      counted = refl;
-      within = omega arith;
-      each = none;
-      cause_is = run;
-      take_is = take;
-    };
-    are = All-cons IsOfBatch (Refused r) replies tt are;
+      → All IsOfRun answers → IsOfTake last
+      → ToldAll requests (Told (Refused r) ∷ answers) last k after
+  told_refused r requests answers last k after none run take are last_is = record {
+    end_is = λ end h count le.
+        subst (λ z. EndsSo id now count requests (count + 0) z k after) (sym h)
+        (none_first requests count 0 (refusal_by r) k after refl none run take);
+    are = All-cons IsOfRun (Told (Refused r)) answers tt are;
+    last_is = last_is;
     counts = λ count le. tt;
   }
 
-  -- the first reply is given, and what those behind it tell
-  tells_one : (words : List (List ℕ)) (requests : List (List (List ℕ))) (reply : BookReply)
-      (replies : List BookReply) (k l after : Place)
-      → Plays TurnStep (Run id words now) reply k l → is_admitted (past_of k) id ≡ true
-      → l.tickets ≤ after.tickets → IsPlayed requests replies l after
-      → StopsAt adds_none (reply ∷ replies)
-      → (IsWithin l → is_admitted (past_of l) id ≡ true → Told requests replies l after)
-      → Told (words ∷ requests) (reply ∷ replies) k after
+  long_after : (k after : Place) → Grows k after [] → length k.seen ≤ length after.seen
+  long_after k after g =
+      omega (arith, ap length g.seen.1, length-append g.seen.0 k.seen)
+
+  -- the first comes back
+  held_ends : (words : List (List ℕ)) (requests : List (List (List ℕ))) (count ran : ℕ)
+      (end : BatchEnd) (k after : Place) → ran ≡ 0 → count ≤ length k.seen → Grows k after []
+      → Returns (Run id words now ∷ runs_at requests) end after
+      → EndsSo id now count (words ∷ requests) (count + ran) end k after
+  held_ends words requests count ran (ends.Taken front) k after zero le none r = absurd r
+  held_ends words requests count ran (ends.Held calls) k after zero le none r =
+      let are : requests_in calls.items ≡ words ∷ requests
+      = ap requests_in r ∙ ap (λ z. words ∷ z) (requests_at requests) in
+      record {
+        first = [];
+        parts = sym are;
+        each = none;
+        counted = omega (arith, zero);
+        fits = omega (arith, zero, le, long_after k after none);
+        runs = subst (All (IsRunAt id now)) (sym r)
+            (All-cons (IsRunAt id now) (Run id words now) (runs_at requests) (refl, refl)
+            (all_at requests));
+        some = omega (arith, ap length are);
+      }
+  held_ends words requests count ran (ends.Refused e) k after zero le none r =
+      none_first (words ∷ requests) count ran e k after zero none r
+      (λ all. absurd (omega (arith, all)))
+
+  told_held : (back : BookCall) (words : List (List ℕ)) (requests : List (List (List ℕ)))
+      (answers : List Answer) (last : Answer) (k l after : Place) → back ≡ Run id words now
+      → Grows k l [] → Passed requests answers last l after
+      → ToldAll (words ∷ requests) (Held back ∷ answers) last k after
+  told_held back words requests answers last k l after is g t =
+      let none = grows_into k l after g t.grows in
+      record {
+        end_is = λ end h count le.
+            held_ends words requests count (ran_in answers) end k after t.none le none
+            (elim h [
+              | inl more ↦ returns_as (back ∷ runs_at requests)
+                  (Run id words now ∷ runs_at requests) end after
+                  (ap (λ z. z ∷ runs_at requests) is) (t.told (back ∷ []) end (omega arith) more)
+              | inr lost ↦ returns_none (Run id words now ∷ runs_at requests) end after lost
+            ]);
+        are = All-cons IsOfRun (Held back) answers tt t.are;
+        last_is = t.last_is;
+        counts = λ count le. t.counts count;
+      }
+
+  -- the first answer is given, and what those behind it tell
+  tells_one : (words : List (List ℕ)) (requests : List (List (List ℕ))) (answer : Answer)
+      (answers : List Answer) (last : Answer) (k l after : Place)
+      → Plays TurnStep (Run id words now) answer k l → is_admitted (past_of k) id ≡ true
+      → (ends_batch answer ≡ true → Passed requests answers last l after)
+      → ToldAll requests answers last l after
+      → ToldAll (words ∷ requests) (answer ∷ answers) last k after
   unfolding Lasts
-  tells_one words requests (Ran m) replies k l after p on le rest stops behind =
-      told_ran m words requests replies k l after (run_number k l id words now m p)
-      (runs k l id words now m p)
-      (behind p.grows.within (on_at k l (Run id words now) (Ran m) p on))
-  tells_one words requests (Refused r) replies k l after p on le rest stops behind =
-      let one = run_refuses k l id words now r p in
-      let there = on_at k l (Run id words now) (Refused r) p on in
-      let more = all_passed requests replies l after one.grows.within there le rest
-      (stops.0 refl) in
-      told_refused r (words ∷ requests) replies k after (grows_into k l after one.grows more.0)
-      (cause_more runs_on id (λ m e past. runs_off m id e past) (refusal_by r) l after there more.0
-      one.cause_is)
-      (λ none. absurd (omega (arith, none))) more.1
-  tells_one words requests (Admitted n i) replies k l after p on le rest stops behind =
-      absurd (never k l (Run id words now) (Admitted n i) p refl)
-  tells_one words requests (Ticked n) replies k l after p on le rest stops behind =
-      absurd (never k l (Run id words now) (Ticked n) p refl)
-  tells_one words requests Quiet replies k l after p on le rest stops behind =
-      absurd (never k l (Run id words now) Quiet p refl)
-  tells_one words requests (Bytes n bytes) replies k l after p on le rest stops behind =
-      absurd (never k l (Run id words now) (Bytes n bytes) p refl)
-  tells_one words requests (Closed n) replies k l after p on le rest stops behind =
-      absurd (never k l (Run id words now) (Closed n) p refl)
+  tells_one words requests (Told (Ran m)) answers last k l after p on passed behind =
+      let one = plays_one (Run id words now) (Told (Ran m)) k l p in
+      told_ran m words requests answers last k l after (run_number k l id words now m one)
+      (runs k l id words now m one) behind
+  tells_one words requests (Told (Refused r)) answers last k l after p on passed behind =
+      let one = run_refuses k l id words now r
+      (plays_one (Run id words now) (Told (Refused r)) k l p) in
+      let there = on_at k l (Run id words now) (Told (Refused r)) p on in
+      let more = passed refl in
+      told_refused r (words ∷ requests) answers last k after
+      (grows_into k l after one.grows more.grows)
+      (cause_more runs_on id (λ m e past. runs_off m id e past) (refusal_by r) l after there
+      more.grows one.cause_is)
+      (λ none. absurd (omega (arith, none))) more.are more.last_is
+  tells_one words requests (Held back) answers last k l after p on passed behind =
+      let one = plays_one (Run id words now) (Held back) k l p in
+      told_held back words requests answers last k l after one.0 one.2 (passed refl)
+  tells_one words requests (Told (Admitted n i)) answers last k l after p on passed behind =
+      absurd (never k l (Run id words now) (Admitted n i)
+      (plays_one (Run id words now) (Told (Admitted n i)) k l p) refl)
+  tells_one words requests (Told (Ticked n)) answers last k l after p on passed behind =
+      absurd (never k l (Run id words now) (Ticked n)
+      (plays_one (Run id words now) (Told (Ticked n)) k l p) refl)
+  tells_one words requests (Told Quiet) answers last k l after p on passed behind =
+      absurd (never k l (Run id words now) Quiet
+      (plays_one (Run id words now) (Told Quiet) k l p) refl)
+  tells_one words requests (Told (Bytes n bytes)) answers last k l after p on passed behind =
+      absurd (never k l (Run id words now) (Bytes n bytes)
+      (plays_one (Run id words now) (Told (Bytes n bytes)) k l p) refl)
+  tells_one words requests (Told (Closed n)) answers last k l after p on passed behind =
+      absurd (never k l (Run id words now) (Closed n)
+      (plays_one (Run id words now) (Told (Closed n)) k l p) refl)
 
   -- what was taken, where all ran
-  told_front : (front : Option Octets) (reply : BookReply) (k after : Place) → IsWithin k
-      → taken_in (reply ∷ []) ≡ Ok front → ran_in (reply ∷ []) ≡ 0 → Takes id front k after
-      → IsOfBatch reply → ((count : ℕ) → Counts count (reply ∷ []))
-      → Told [] (reply ∷ []) k after
-  told_front front reply k after is taken none takes of counts = grind (arith, grows_none)
-
-  tells_take : (reply : BookReply) (k after : Place) → IsWithin k
-      → is_admitted (past_of k) id ≡ true → Plays TurnStep (Take id most) reply k after
-      → Told [] (reply ∷ []) k after
-  tells_take (Bytes n bytes) k after is on p =
-      told_front (Some bytes) (Bytes n bytes) k after is refl refl
-      (gives k after id most n bytes p) tt (λ count. tt)
-  tells_take Quiet k after is on p =
-      told_front None Quiet k after is refl refl (rests k after id most (omega arith) p) tt
-      (λ count. tt)
-  tells_take (Refused r) k after is on p =
-      let one = take_refuses k after id most r p in
-      told_refused r [] [] k after one.grows (ungiven_unrun id (refusal_by r) after one.cause_is)
-      (λ none. one.cause_is) (All-nil IsOfBatch)
-  tells_take (Admitted n i) k after is on p =
-      absurd (never k after (Take id most) (Admitted n i) p refl)
-  tells_take (Ran n) k after is on p = absurd (never k after (Take id most) (Ran n) p refl)
-  tells_take (Ticked n) k after is on p = absurd (never k after (Take id most) (Ticked n) p refl)
-  tells_take (Closed n) k after is on p = absurd (never k after (Take id most) (Closed n) p refl)
-
-  tells_all : (requests : List (List (List ℕ))) (replies : List BookReply) (k after : Place)
-      → IsWithin k → is_admitted (past_of k) id ≡ true → k.tickets ≤ after.tickets
-      → IsPlayed requests replies k after → StopsAt adds_none replies
-      → Told requests replies k after
-  unfolding runs_at IsPlayed
-  tells_all [] [] k after is on le t stops = absurd t
-  tells_all [] (reply ∷ []) k after is on le t stops =
-      let (next, one, turn, two) = t in
-      tells_take reply k after is on
-      (last_plays (Take id most) reply k next after is le one turn two.0 two.1 two.2)
-  tells_all [] (reply ∷ more ∷ replies) k after is on le t stops =
-      let (next, one, turn, two) = t in absurd two
-  tells_all (words ∷ requests) [] k after is on le t stops = absurd t
-  tells_all (words ∷ requests) (reply ∷ replies) k after is on le t stops =
-      let (next, same, turn, rest) = t in
-      let l = with_tickets next k.tickets in
-      let less = less_at next after k.tickets le in
-      let behind =
-      rest_of (runs_at requests ++ Take id most ∷ []) replies next after k.tickets rest in
-      tells_one words requests reply replies k l after
-      (one_plays (Run id words now) reply k next is same turn) on less behind stops
-      (λ within there. tells_all requests replies l after within there less behind stops.1)
-
-  pub tells : (calls : List BookCall) (replies : List BookReply) (k after : Place)
-      → All (IsRunAt id now) calls → IsWithin k → is_admitted (past_of k) id ≡ true
-      → k.tickets ≤ after.tickets → TurnedAll TurnStep (calls ++ Take id most ∷ []) replies k after
-      → StopsAt adds_none replies → Told (requests_in calls) replies k after
-  unfolding IsPlayed
-  tells calls replies k after runs is on le t =
-      tells_all (requests_in calls) replies k after is on le
-      (subst (λ z. TurnedAll TurnStep (z ++ Take id most ∷ []) replies k after)
-      (are_runs calls runs) t)
-
-  -- what is told of a batch, with the requests that ran before
-  pub told_ok : (count : ℕ) (requests : List (List (List ℕ))) (replies : List BookReply)
-      (k after : Place) (b : Batch) → Told requests replies k after → count ≤ length k.seen
-      → b.requests ≡ count + ran_in replies → b.front ≡ taken_in replies
-      → IfOk b.front (λ front. RunsAndTakes id now count requests b.requests front k after)
-  told_ok count requests replies k after b t le ran front = grind arith
-
-  pub told_err : (count : ℕ) (requests : List (List (List ℕ))) (replies : List BookReply)
-      (k after : Place) (b : Batch) → Told requests replies k after
-      → b.requests ≡ count + ran_in replies → b.front ≡ taken_in replies
-      → IfErr b.front (λ e. RunsFirst id now count requests b.requests e k after)
-  told_err count requests replies k after b t ran front = grind arith
-
--- ---- a turn each
-
-take_front : {A : Type 0} (xs ys : List A) → take (length xs) (xs ++ ys) ≡ xs
-take_front xs ys = grind (arith, take-append-le, take_all)
-
-pub last_off : {A : Type 0} (xs ys : List A) (x : A) (last : List A)
-    → xs ++ x ∷ [] ≡ ys ++ last → length ys ≡ length xs → ys ≡ xs
-last_off xs ys x last is long =
-    sym (take_front ys last) ∙ ap (λ n. take n (ys ++ last)) long
-    ∙ ap (take (length xs)) (sym is) ∙ take_front xs (x ∷ [])
-
-module _ (id now : ℕ) where
-  runs_from : (words : List (List ℕ)) (a b c : Place) → Grows a b [] → Runs id words now b c
-      → Runs id words now a c
-  runs_from words a b c g r = record {
-    past = r.past;
-    begins = begins_trans (past_of a) (past_of b) r.past (grows_past a b [] g) r.begins;
-    grows = grows_then a b c [] _ g r.grows;
-    on = subst (λ z. runs_on z r.past id ≡ true) (ap limits_in g.setup) r.on;
-    ends = r.ends;
+  all_taken : (front : Option Octets) (k after : Place) → IsWithin k → Takes id front k after
+      → (count : ℕ) → count ≤ length k.seen
+      → RunsAndTakes id now count [] (count + 0) front k after
+  all_taken front k after is takes count le = record {
+    middle = k;
+    each = grows_none k is;
+    counted = refl;
+    fits = omega (arith, le);
+    takes = takes;
   }
 
-  each_from : (ws : List (List (List ℕ))) (a b c : Place) → Grows a b [] → RunsEach id now ws b c
-      → RunsEach id now ws a c
-  each_from [] a b c g h = grows_into a b c g h
-  each_from (w ∷ ws) a b c g (mid, run, rest) = (mid, runs_from w a b mid g run, rest)
+  told_front : (front : Option Octets) (answer : Answer) (k after : Place) → IsWithin k
+      → Takes id front k after → IsOfTake answer
+      → ((end : BatchEnd) → Tells [] [] answer end → end ≡ ends.Taken front)
+      → ToldAll [] [] answer k after
+  told_front front answer k after is takes of taken = record {
+    end_is = λ end h count le.
+        subst (λ z. EndsSo id now count [] (count + 0) z k after) (sym (taken end h))
+        (all_taken front k after is takes count le);
+    are = All-nil IsOfRun;
+    last_is = of;
+    counts = λ count le. tt;
+  }
 
-  -- nothing was played before the first turn
-  pub all_from : (count : ℕ) (requests : List (List (List ℕ))) (ran : ℕ) (front : Option Octets)
-      (a b c : Place) → Grows a b [] → RunsAndTakes id now count requests ran front b c
-      → RunsAndTakes id now count requests ran front a c
-  all_from count requests ran front a b c g h = grind (arith, each_from)
+  tells_take : (answer : Answer) (k after : Place) → IsWithin k
+      → Plays TurnStep (Take id most) answer k after → ToldAll [] [] answer k after
+  tells_take (Told (Bytes n bytes)) k after is p =
+      told_front (Some bytes) (Told (Bytes n bytes)) k after is
+      (gives k after id most n bytes (plays_one (Take id most) (Told (Bytes n bytes)) k after p)) tt
+      (λ end h. h)
+  tells_take (Told Quiet) k after is p =
+      told_front None (Told Quiet) k after is
+      (rests k after id most (omega arith) (plays_one (Take id most) (Told Quiet) k after p)) tt
+      (λ end h. h)
+  tells_take (Told (Refused r)) k after is p =
+      let one = take_refuses k after id most r
+      (plays_one (Take id most) (Told (Refused r)) k after p) in
+      record {
+        end_is = λ end h count le.
+            subst (λ z. EndsSo id now count [] (count + 0) z k after) (sym h)
+            (none_first [] count 0 (refusal_by r) k after refl one.grows
+            (ungiven_unrun id (refusal_by r) after one.cause_is) (λ none. one.cause_is));
+        are = All-nil IsOfRun;
+        last_is = tt;
+        counts = λ count le. tt;
+      }
+  tells_take (Held back) k after is p = absurd (let no : false ≡ true = p.did.1 in cc)
+  tells_take (Told (Admitted n i)) k after is p =
+      absurd (never k after (Take id most) (Admitted n i)
+      (plays_one (Take id most) (Told (Admitted n i)) k after p) refl)
+  tells_take (Told (Ran n)) k after is p =
+      absurd (never k after (Take id most) (Ran n)
+      (plays_one (Take id most) (Told (Ran n)) k after p) refl)
+  tells_take (Told (Ticked n)) k after is p =
+      absurd (never k after (Take id most) (Ticked n)
+      (plays_one (Take id most) (Told (Ticked n)) k after p) refl)
+  tells_take (Told (Closed n)) k after is p =
+      absurd (never k after (Take id most) (Closed n)
+      (plays_one (Take id most) (Told (Closed n)) k after p) refl)
 
-  pub first_from : (count : ℕ) (requests : List (List (List ℕ))) (ran : ℕ) (e : Refusal)
-      (a b c : Place) → Grows a b [] → RunsFirst id now count requests ran e b c
-      → RunsFirst id now count requests ran e a c
-  first_from count requests ran e a b c g f = grind (arith, each_from)
+  tells_all : (requests : List (List (List ℕ))) (answers : List Answer) (last : Answer)
+      (k after : Place) → IsWithin k → is_admitted (past_of k) id ≡ true
+      → k.tickets ≤ after.tickets → IsPlayed requests (answers ++ last ∷ []) k after
+      → StopsAt ends_batch (answers ++ last ∷ []) → ToldAll requests answers last k after
+  unfolding runs_at IsPlayed
+  tells_all [] [] last k after is on le t stops =
+      let (next, one, turn, two) = t in
+      tells_take last k after is
+      (last_plays (Take id most) last k next after is le one turn two.0 two.1 two.2)
+  tells_all [] (answer ∷ []) last k after is on le t stops =
+      let (next, one, turn, two) = t in absurd two
+  tells_all [] (answer ∷ more ∷ answers) last k after is on le t stops =
+      let (next, one, turn, two) = t in absurd two
+  tells_all (words ∷ []) [] last k after is on le t stops =
+      let (next, one, turn, two) = t in absurd two
+  tells_all (words ∷ more ∷ requests) [] last k after is on le t stops =
+      let (next, one, turn, two) = t in absurd two
+  tells_all (words ∷ requests) (answer ∷ answers) last k after is on le t stops =
+      let (next, same, turn, rest) = t in
+      let call = Run id words now in
+      let l = with_tickets next k.tickets in
+      let p = one_plays call answer k next is same turn in
+      let there = on_at k l call answer p on in
+      let less = less_at next after k.tickets le in
+      let behind =
+      rest_of (runs_at requests ++ Take id most ∷ []) (answers ++ last ∷ []) next after k.tickets
+      rest in
+      tells_one words requests answer answers last k l after p on
+      (λ over. all_passed requests answers last l after p.grows.within there less behind
+      (stops.0 over))
+      (tells_all requests answers last l after p.grows.within there less behind stops.1)
 
-  each_more : (ws : List (List (List ℕ))) (words : List (List ℕ)) (a b c : Place)
-      → RunsEach id now ws a b → Runs id words now b c → RunsEach id now (ws ++ words ∷ []) a c
-  each_more [] words a b c h run = grind (arith, runs_from, grows_none)
-  each_more (w ∷ ws) words a b c (mid, one, rest) run =
-      (mid, one, each_more ws words mid b c rest run)
-
-  -- some of the calls ran, and the rest are to come
-  pub record Running (count : ℕ) (requests : List (List (List ℕ))) (ran : ℕ)
-      (rest : List BookCall) (old k : Place) : Type 0 where
-    pub done : List (List (List ℕ))
-    pub parts : requests ≡ done ++ requests_in rest
-    pub counted : ran ≡ count + length done
-    pub fits : ran ≤ length k.seen
-    pub each : RunsEach id now done old k
-    pub runs : All (IsRunAt id now) rest
-    pub within : IsWithin k
-    pub admitted : is_admitted (past_of k) id ≡ true
-
-  pub running_begins : (count : ℕ) (calls rest : List BookCall) (k : Place) → rest ≡ calls
+  pub tells : (calls : List BookCall) (answers : List Answer) (last : Answer) (k after : Place)
       → All (IsRunAt id now) calls → IsWithin k → is_admitted (past_of k) id ≡ true
-      → count ≤ length k.seen → Running count (requests_in calls) count rest k k
-  running_begins count calls rest k same runs is on le = grind (arith, grows_none, runs)
+      → k.tickets ≤ after.tickets
+      → TurnedAll TurnStep (calls ++ Take id most ∷ []) (answers ++ last ∷ []) k after
+      → StopsAt ends_batch (answers ++ last ∷ [])
+      → ToldAll (requests_in calls) answers last k after
+  unfolding IsPlayed
+  tells calls answers last k after runs is on le t =
+      tells_all (requests_in calls) answers last k after is on le
+      (subst (λ z. TurnedAll TurnStep (z ++ Take id most ∷ []) (answers ++ last ∷ []) k after)
+      (are_runs calls runs) t)
 
-  module _ (count : ℕ) (requests : List (List (List ℕ))) (ran : ℕ) (rest : List BookCall)
-      (old k : Place) (r : Running count requests ran rest old k) where
-    all_done : take (length r.done) requests ≡ r.done
-    all_done = ap (take (length r.done)) r.parts ∙ take_front r.done (requests_in rest)
+all_front : {A : Type 0} (P : A → Type 0) (xs ys : List A) → All P (xs ++ ys) → All P xs
+all_front P [] ys h = All-nil P
+all_front P (x ∷ xs) ys h =
+    All-cons P x xs (All-head P x (xs ++ ys) h) (all_front P xs ys (All-tail P x (xs ++ ys) h))
 
-    -- the next one was refused
-    pub running_refused : (n moment : ℕ) (words : List (List ℕ)) (left : List BookCall)
-        → rest ≡ Run n words moment ∷ left → (e : Refusal) (l : Place)
-        → Refuses (IsCause runs_on id) e k l → RunsFirst id now count requests ran e old l
-    running_refused n moment words left next e l stops =
-        let parts : requests ≡ r.done ++ (words ∷ requests_in left)
-        = r.parts ∙ ap (λ z. r.done ++ requests_in z) next in
-        let long = ap length parts ∙ length-append r.done (words ∷ requests_in left) in
-        record {
-          number = length r.done;
-          counted = r.counted;
-          within = omega (arith, long);
-          each = subst (λ z. RunsEach id now z old l) (sym all_done)
-              (each_then id now r.done old k l r.each stops.grows);
-          cause_is = stops.cause_is;
-          take_is = λ all. absurd (omega (arith, all, long));
-        }
+pub stops_front : (xs ys : List Answer) → StopsAt ends_batch (xs ++ ys) → StopsAt ends_batch xs
+stops_front [] ys h = tt
+stops_front (x ∷ xs) ys h =
+    (λ over. all_front (λ r. ends_batch r ≡ true) xs ys (h.0 over), stops_front xs ys h.1)
 
-    none_left : rest ≡ [] → requests ≡ r.done
-    none_left none = r.parts ∙ (ap (λ z. r.done ++ requests_in z) none ∙ append-nil r.done)
-
-    -- all ran, and what waits behind them was taken
-    pub running_takes : rest ≡ [] → (front : Option Octets) (l : Place) → Takes id front k l
-        → RunsAndTakes id now count requests ran front old l
-    running_takes none front l takes = grind (arith, none_left)
-
-    pub running_ends : rest ≡ [] → (e : Refusal) (l : Place)
-        → Refuses (IsCause gives_on id) e k l → RunsFirst id now count requests ran e old l
-    running_ends none e l stops =
-        let long = ap length (none_left none) in
-        record {
-          number = length r.done;
-          counted = r.counted;
-          within = omega (arith, long);
-          each = subst (λ z. RunsEach id now z old l) (sym all_done)
-              (each_then id now r.done old k l r.each stops.grows);
-          cause_is = ungiven_unrun id e l stops.cause_is;
-          take_is = λ all. stops.cause_is;
-        }
-
-    pub running_more : (n moment : ℕ) (words : List (List ℕ)) (left : List BookCall)
-        → rest ≡ Run n words moment ∷ left → (l : Place) → Runs id words now k l
-        → Running count requests (ran + 1) left old l
-    running_more n moment words left is l run =
-        let longer = seen_longer id now words k l run in
-        let runs = subst (All (IsRunAt id now)) is r.runs in
-        let long = length-append r.done (words ∷ []) in
-        record {
-          done = r.done ++ words ∷ [];
-          parts = grind (arith, append_assoc);
-          counted = omega (arith, r.counted, long);
-          fits = omega (arith, r.fits, longer);
-          each = each_more r.done words old k l r.each run;
-          runs = All-tail (IsRunAt id now) (Run n words moment) left runs;
-          within = run.grows.within;
-          admitted = begins_lift (λ past. is_admitted past id ≡ true) (admitted_more id)
-              (past_of k) (past_of l) (grows_past k l _ run.grows) r.admitted;
-        }
-
--- each of the calls is a Run
-pub runs_alone : (id now : ℕ) (rest left : List BookCall) (call : BookCall)
-    → All (IsRunAt id now) rest → rest ≡ call ∷ left
-    → ((n : ℕ) (words : List (List ℕ)) (moment : ℕ) → call ≡ Run n words moment → ⊥) → ⊥
-runs_alone id now rest left call runs is other = grind (arith, by_run, runs)
-
--- the lock played none of them
-pub unplayed_grows : (e : Unplayed) (n : ℕ) (k l : Place) → IsWithin k → k.tickets ≤ l.tickets
-    → IsUnplayed e n k l → Grows k l []
-unplayed_grows unplayed.NoMemory n k l is le same =
-    subst (λ z. Grows k z []) (sym same) (grows_none k is)
-unplayed_grows (unplayed.Worn w) n k l is le (few, want, same) =
-    let at = ap (λ (z : Place). z.tickets) same in
-    grows_worn k l w.tickets is (omega (arith, at, le)) same
+-- none runs behind one that ended the batch
+pub none_behind : (answers : List Answer) → All (λ r. ends_batch r ≡ true) answers
+    → ran_in answers ≡ 0
+none_behind [] all = refl
+none_behind (a ∷ answers) all =
+    none_at a (All-head (λ r. ends_batch r ≡ true) a answers all)
+    (none_behind answers (All-tail (λ r. ends_batch r ≡ true) a answers all))
+  where
+    none_at : (a : Answer) → ends_batch a ≡ true → ran_in answers ≡ 0 → ran_in (a ∷ answers) ≡ 0
+    none_at (Held back) over rest = rest
+    none_at (Told (Refused r)) over rest = refl
+    none_at (Told Quiet) over rest = refl
+    none_at (Told (Admitted n i)) over rest = refl
+    none_at (Told (Ran n)) over rest = absurd (let no : ⊥ = cc in no)
+    none_at (Told (Ticked n)) over rest = refl
+    none_at (Told (Bytes n bytes)) over rest = refl
+    none_at (Told (Closed n)) over rest = refl

@@ -18,7 +18,7 @@ use Rattle.serial_model.specs.Steps.{Turn as Stepped, book_step, BookStep, gone}
 use Rattle.serial_model.specs.Steps.{admitting, running, taking, ticking, tick_at, closing}
 use Rattle.serial_model.specs.Steps.{stopped}
 use Rattle.serial_model.proofs.Turning.{by_step}
-use Rattle.shared_book.specs.Turns.{May, TurnStep}
+use Rattle.shared_book.specs.Turns.{May, BookTurn}
 
 -- by the case of a test, which is known in each
 by_test : {X : Type 0} (P : X → Type 0) (b : Bool) (x y : X) → (b ≡ true → P x)
@@ -143,10 +143,10 @@ module _ (l : Limits) (past : List Entry) where
 
   pub entry_added : (call : BookCall) (reply : BookReply) (new : List Entry)
       → BookStep l past call reply new
-      → (e : Option Entry) × TurnStep l past call reply e × (new ≡ past_after past e)
+      → (e : Option Entry) × BookTurn l past call reply e × (new ≡ past_after past e)
   entry_added call reply new does = grind (arith, says)
 
 pub turned : (l : Limits) (old past new : List Entry) (call : BookCall) (reply : BookReply)
     → BookStep l old call reply new → old ≡ past
-    → (e : Option Entry) × TurnStep l past call reply e × (new ≡ past_after past e)
+    → (e : Option Entry) × BookTurn l past call reply e × (new ≡ past_after past e)
 turned l old past new call reply does same = grind (arith, entry_added)

@@ -3,3 +3,4 @@ pub mod Did
 pub mod Outcomes
 pub mod Passing
 pub mod Batches
+pub mod Each

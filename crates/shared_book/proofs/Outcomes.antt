@@ -3,9 +3,9 @@ use Rattle.std.proofs.Common.{◌≡◌, ◌≤◌, ◌<◌, ℕ, List, [], ◌�
 use Rattle.std.proofs.Common.{sym, ap, subst, ◌∙◌, arith, Some, None, inl, inr, suc}
 use Rattle.turn_lock.specs.History.{entries, past_after}
 use Rattle.turn_lock.specs.declared.rule.TheConstants.{LAST_TICKET}
-use Rattle.seat_turns.specs.Own.{past_of, Grows}
-use Rattle.seat_turns.specs.Turns.{Plays}
-use Rattle.seat_turns.proofs.Turning.{grows_by, ends_by}
+use Rattle.turn_lock.specs.Own.{past_of, Grows}
+use Rattle.turn_lock.specs.Turns.{Plays}
+use Rattle.turn_lock.proofs.Turning.{grows_by, ends_by}
 use Rattle.serial_model.specs.declared.history.Limits.{Limits}
 use Rattle.serial_model.specs.declared.history.Entry.{Entry}
 use Rattle.serial_model.specs.declared.history.Entry.TheVariants as entry
@@ -19,10 +19,13 @@ use Rattle.serial_model.specs.declared.history.BookRefusal.TheVariants.{Gone, No
 use Rattle.serial_model.specs.History.{expired, gives_on, is_stopped, latest, reads_on, runs_on}
 use Rattle.serial_model.specs.History.{unsent}
 use Rattle.serial_model.specs.Steps.{BookStep}
-use Rattle.shared_book.specs.Turns.{Place, TurnStep, limits_of, limits_in, Refuses, Admits, Runs}
+use Rattle.shared_book.specs.Turns.{Place, BookTurn, limits_of, limits_in, Refuses, Admits, Runs}
+use Rattle.shared_book.specs.Turns.{PlaysOne, TurnStep}
 use Rattle.shared_book.specs.Turns.{Gives, Rests, Ticks, Closes, May, IsCause, IsCloseCause}
 use Rattle.shared_book.specs.Turns.{IsServerCause}
 use Rattle.shared_book.specs.Batches.{refusal_by}
+use Rattle.shared_book.specs.declared.logged.Answer.{Answer}
+use Rattle.shared_book.specs.declared.logged.Answer.TheVariants.{Told, Held}
 use Rattle.shared_book.specs.declared.turns.Refusal.TheVariants as refusal
 use Rattle.shared_book.proofs.Histories.{kept_by}
 use Rattle.shared_book.proofs.Did.{Said, says, comes, named, may_of}
@@ -38,9 +41,9 @@ entries_long [] = refl
 entries_long (e ∷ h) = ap suc (entries_long h)
 
 module _ {before after : Place} {call : BookCall} {reply : BookReply}
-    (p : Plays TurnStep call reply before after) where
+    (p : Plays BookTurn call reply before after) where
   did_here : BookStep (limits_of before) p.past call reply (past_after p.past p.added)
-  did_here = subst (λ l. TurnStep l p.past call reply p.added) (ap limits_in (sym p.setup_is)) p.did
+  did_here = subst (λ l. BookTurn l p.past call reply p.added) (ap limits_in (sym p.setup_is)) p.did
 
   said : Said (limits_of before) p.past call reply (past_after p.past p.added)
   said = says (limits_of before) p.past call reply (past_after p.past p.added) did_here
@@ -60,7 +63,7 @@ module _ {before after : Place} {call : BookCall} {reply : BookReply}
 
 module _ (before after : Place) (call : BookCall) where
   -- a reply that does not come
-  pub never : (reply : BookReply) → Plays TurnStep call reply before after
+  pub never : (reply : BookReply) → Plays BookTurn call reply before after
       → comes call reply ≡ false → ⊥
   never reply p not = let known = (said p).0 in cc
 
@@ -71,7 +74,7 @@ module _ (before after : Place) (call : BookCall) where
       → ((l : Limits) (past : List Entry) → may_of call l past (named call) ≡ false
       → may l past id ≡ false)
       → comes call (Refused Stopped) ≡ false → (r : BookRefusal)
-      → Plays TurnStep call (Refused r) before after
+      → Plays BookTurn call (Refused r) before after
       → Refuses (IsCause may id) (refusal_by r) before after
   refuses may id off on NoMemory p =
       let (known, e, s, is) = said p in
@@ -88,7 +91,7 @@ module _ (before after : Place) (call : BookCall) where
 
   -- a turn that is of none
   pub refuses_server : ((n : ℕ) → comes call (Refused (Gone n)) ≡ false) → (r : BookRefusal)
-      → Plays TurnStep call (Refused r) before after
+      → Plays BookTurn call (Refused r) before after
       → Refuses IsServerCause (refusal_by r) before after
   refuses_server on NoMemory p =
       let (known, e, s, is) = said p in
@@ -115,73 +118,73 @@ module _ (before after : Place) (g : Grows before after []) (worn : LAST_TICKET 
     worn_close id = record { grows = g; cause_is = worn }
 
 module _ (before after : Place) where
-  pub admit_memory : Plays TurnStep Admit (Refused NoMemory) before after
+  pub admit_memory : Plays BookTurn Admit (Refused NoMemory) before after
       → Refuses IsServerCause refusal.NoMemory before after
   admit_memory p = refuses_server before after Admit (λ n. refl) NoMemory p
 
-  pub admit_stopped : Plays TurnStep Admit (Refused Stopped) before after
+  pub admit_stopped : Plays BookTurn Admit (Refused Stopped) before after
       → Refuses IsServerCause refusal.Stopped before after
   admit_stopped p = refuses_server before after Admit (λ n. refl) Stopped p
 
-  pub tick_memory : (now : ℕ) → Plays TurnStep (Tick now) (Refused NoMemory) before after
+  pub tick_memory : (now : ℕ) → Plays BookTurn (Tick now) (Refused NoMemory) before after
       → Refuses IsServerCause refusal.NoMemory before after
   tick_memory now p = refuses_server before after (Tick now) (λ n. refl) NoMemory p
 
-  pub tick_stopped : (now : ℕ) → Plays TurnStep (Tick now) (Refused Stopped) before after
+  pub tick_stopped : (now : ℕ) → Plays BookTurn (Tick now) (Refused Stopped) before after
       → Refuses IsServerCause refusal.Stopped before after
   tick_stopped now p = refuses_server before after (Tick now) (λ n. refl) Stopped p
 
   pub run_refuses : (id : ℕ) (words : List (List ℕ)) (now : ℕ) (r : BookRefusal)
-      → Plays TurnStep (Run id words now) (Refused r) before after
+      → Plays BookTurn (Run id words now) (Refused r) before after
       → Refuses (IsCause runs_on id) (refusal_by r) before after
   run_refuses id words now r p =
       refuses before after (Run id words now) runs_on id (λ l past h. h) refl r p
 
   pub run_gone : (id : ℕ) (words : List (List ℕ)) (now n : ℕ)
-      → Plays TurnStep (Run id words now) (Refused (Gone n)) before after
+      → Plays BookTurn (Run id words now) (Refused (Gone n)) before after
       → Refuses (IsCause runs_on id) refusal.Dropped before after
   run_gone id words now n p = run_refuses id words now (Gone n) p
 
   pub run_memory : (id : ℕ) (words : List (List ℕ)) (now : ℕ)
-      → Plays TurnStep (Run id words now) (Refused NoMemory) before after
+      → Plays BookTurn (Run id words now) (Refused NoMemory) before after
       → Refuses (IsCause runs_on id) refusal.NoMemory before after
   run_memory id words now p = run_refuses id words now NoMemory p
 
   pub take_refuses : (id most : ℕ) (r : BookRefusal)
-      → Plays TurnStep (Take id most) (Refused r) before after
+      → Plays BookTurn (Take id most) (Refused r) before after
       → Refuses (IsCause gives_on id) (refusal_by r) before after
   take_refuses id most r p =
       refuses before after (Take id most) gives_on id (λ l past h. h) refl r p
 
-  pub take_gone : (id most n : ℕ) → Plays TurnStep (Take id most) (Refused (Gone n)) before after
+  pub take_gone : (id most n : ℕ) → Plays BookTurn (Take id most) (Refused (Gone n)) before after
       → Refuses (IsCause gives_on id) refusal.Dropped before after
   take_gone id most n p = take_refuses id most (Gone n) p
 
   pub take_memory : (id most : ℕ)
-      → Plays TurnStep (Take id most) (Refused NoMemory) before after
+      → Plays BookTurn (Take id most) (Refused NoMemory) before after
       → Refuses (IsCause gives_on id) refusal.NoMemory before after
   take_memory id most p = take_refuses id most NoMemory p
 
-  pub admits : (n id : ℕ) → Plays TurnStep Admit (Admitted n id) before after
+  pub admits : (n id : ℕ) → Plays BookTurn Admit (Admitted n id) before after
       → Admits id before after
   admits n id p =
       let (known, e, s, is) = said p in
       grind (arith, grows_by, ends_by)
 
   pub runs : (id : ℕ) (words : List (List ℕ)) (now n : ℕ)
-      → Plays TurnStep (Run id words now) (Ran n) before after → Runs id words now before after
+      → Plays BookTurn (Run id words now) (Ran n) before after → Runs id words now before after
   runs id words now n p =
       let (known, e, s, is) = said p in
       grind (arith, max, grows_by, ends_by)
 
   pub run_number : (id : ℕ) (words : List (List ℕ)) (now n : ℕ)
-      → Plays TurnStep (Run id words now) (Ran n) before after → n ≡ length after.seen
+      → Plays BookTurn (Run id words now) (Ran n) before after → n ≡ length after.seen
   run_number id words now n p =
       let (known, e, s, is) = said p in
       grind (arith, max, ends_by, entries_long)
 
   pub gives : (id most n : ℕ) (bytes : List ℕ)
-      → Plays TurnStep (Take id most) (Bytes n bytes) before after
+      → Plays BookTurn (Take id most) (Bytes n bytes) before after
       → Gives id most bytes before after × (0 < length bytes)
   gives id most n bytes p =
       let (known, e, s, is) = said p in
@@ -199,7 +202,7 @@ module _ (before after : Place) where
         s.3,
       )
 
-  pub rests : (id most : ℕ) → 0 < most → Plays TurnStep (Take id most) Quiet before after
+  pub rests : (id most : ℕ) → 0 < most → Plays BookTurn (Take id most) Quiet before after
       → Rests id before after
   rests id most pos p =
       let (known, e, s, is) = said p in
@@ -211,7 +214,7 @@ module _ (before after : Place) where
         grows = stays p none;
       }
 
-  pub ticks : (now n : ℕ) → Plays TurnStep (Tick now) (Ticked n) before after
+  pub ticks : (now n : ℕ) → Plays BookTurn (Tick now) (Ticked n) before after
       → Ticks now before after
   ticks now n p =
       let (known, e, s, is) = said p in
@@ -225,7 +228,7 @@ module _ (before after : Place) where
         ends = ends_by p (Some x) one;
       })
 
-  pub ticks_not : (now : ℕ) → Plays TurnStep (Tick now) Quiet before after → Ticks now before after
+  pub ticks_not : (now : ℕ) → Plays BookTurn (Tick now) Quiet before after → Ticks now before after
   ticks_not now p =
       let (known, e, s, is) = said p in
       let none = is ∙ ap (past_after p.past) s.0 in
@@ -234,7 +237,7 @@ module _ (before after : Place) where
         grows = stays p none;
       })
 
-  pub closes : (id n : ℕ) → Plays TurnStep (Close id) (Closed n) before after
+  pub closes : (id n : ℕ) → Plays BookTurn (Close id) (Closed n) before after
       → Closes id before after
   closes id n p =
       let (known, e, s, is) = said p in
@@ -247,11 +250,27 @@ module _ (before after : Place) where
         ends = ends_by p (Some (entry.Close id)) one;
       }
 
-  pub close_gone : (id n : ℕ) → Plays TurnStep (Close id) (Refused (Gone n)) before after
+  pub close_gone : (id n : ℕ) → Plays BookTurn (Close id) (Refused (Gone n)) before after
       → Refuses (IsCloseCause id) refusal.Dropped before after
   close_gone id n p =
       let r = refuses before after (Close id) reads_on id (λ l past h. h) refl (Gone n) p in
       record { grows = r.grows; cause_is = r.cause_is }
+
+-- a turn under the lock is one of the book, or the call comes back
+pub plays_one : (call : BookCall) (answer : Answer) (before after : Place)
+    → Plays TurnStep call answer before after → PlaysOne call answer before after
+plays_one call (Told reply) before after p = record {
+  setup = p.setup;
+  setup_is = p.setup_is;
+  past = p.past;
+  added = p.added;
+  begins = p.begins;
+  did = p.did;
+  ends = p.ends;
+  grows = p.grows;
+}
+plays_one call (Held back) before after p =
+    (p.did.0, p.did.1, grows_by p None (ap (past_after p.past) p.did.2))
 
 pub ruleset admitting = (admits, admit_memory, admit_stopped, worn_server, never)
 

@@ -1,34 +1,14 @@
--- A call of a batch that is passed unplayed, behind one that added no entry.
+-- A Take that is passed unplayed, behind a call that added no entry.
 use Rattle.std.proofs.Common.{◌≡◌, ◌<◌, ℕ, zero, suc, List, [], ◌∷◌, length, take, true}
 use Rattle.std.proofs.Common.{false, refl, ap, ◌∙◌, arith}
 use Rattle.std.proofs.lemmas.Bool.Decides.{nat_tests}
-use Rattle.serial_model.specs.declared.history.BookCall.TheVariants.{Run, Take}
+use Rattle.serial_model.specs.declared.history.BookCall.TheVariants.{Take}
 use Rattle.serial_model.specs.declared.history.BookReply.TheVariants.{Quiet, Refused}
 use Rattle.serial_model.specs.declared.history.BookRefusal.TheVariants.{Gone, NoMemory}
-use Rattle.serial_model.specs.History.{gives_on, runs_on, unsent}
-use Rattle.serial_model.specs.Steps.{book_step, running, taking}
+use Rattle.serial_model.specs.History.{gives_on, unsent}
+use Rattle.serial_model.specs.Steps.{book_step, taking}
 use Rattle.shared_book.specs.Turns.{Shared}
-use Rattle.shared_book.specs.Batches.{PassesTake, RefusesRun}
-
--- ---- a Run
-
-module _ (s : Shared) (id : ℕ) where
-  pub refuse_gone : runs_on s.limits s.past id ≡ false → RefusesRun s id (Gone id)
-  unfolding book_step
-  refuse_gone off words now = grind (arith, nat_tests)
-
-  on_step : (words : List (List ℕ)) (now : ℕ) → runs_on s.limits s.past id ≡ true
-      → book_step s.limits s.past (Run id words now)
-      ≡ running s.past id words now
-  unfolding book_step
-  on_step words now on = grind (arith, nat_tests)
-
-  pub refuse_memory : runs_on s.limits s.past id ≡ true → RefusesRun s id NoMemory
-  refuse_memory on words now = grind (arith, on_step, nat_tests)
-
-pub ruleset refusing = (refuse_gone, refuse_memory)
-
--- ---- a Take
+use Rattle.shared_book.specs.Batches.{PassesTake}
 
 take_some : (n : ℕ) (xs : List ℕ) → 0 < n → 0 < length xs
     → (b : ℕ) × (bytes : List ℕ) × (take n xs ≡ b ∷ bytes)

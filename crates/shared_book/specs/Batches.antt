@@ -1,6 +1,7 @@
 -- Several requests of one connection and the Take behind them, in one batch.
-use Rattle.std.specs.Prelude.{◌≡◌, ◌≤◌, ◌<◌, ◌+◌, ℕ, suc, List, [], ◌∷◌, length, take}
-use Rattle.std.specs.Prelude.{Option, Some, None, Result, Ok, Err, Bool, true, false, ⊤}
+use Rattle.std.specs.Prelude.{◌≡◌, ◌≤◌, ◌<◌, ◌+◌, ◌++◌, ◌⊎◌, ℕ, suc, List, [], ◌∷◌, length, take}
+use Rattle.std.specs.Prelude.{Option, Some, None, Bool, true, false, ⊤}
+use Rattle.std.specs.List.{All}
 use Rattle.resp_value.specs.declared.octets.Octets.{Octets}
 use Rattle.serial_model.specs.declared.history.BookCall.{BookCall}
 use Rattle.serial_model.specs.declared.history.BookCall.TheVariants as call
@@ -11,8 +12,12 @@ use Rattle.serial_model.specs.declared.history.BookRefusal.{BookRefusal}
 use Rattle.serial_model.specs.declared.history.BookRefusal.TheVariants as because
 use Rattle.serial_model.specs.History.{gives_on, runs_on}
 use Rattle.serial_model.specs.Steps.{BookStep}
-use Rattle.seat_turns.specs.Own.{Grows}
+use Rattle.turn_lock.specs.Own.{Grows}
 use Rattle.shared_book.specs.Turns.{Shared, Place, Runs, Takes, IsCause}
+use Rattle.shared_book.specs.declared.batch.BatchEnd.{BatchEnd}
+use Rattle.shared_book.specs.declared.batch.BatchEnd.TheVariants as ends
+use Rattle.shared_book.specs.declared.logged.Answer.{Answer}
+use Rattle.shared_book.specs.declared.logged.Answer.TheVariants.{Told, Held}
 use Rattle.shared_book.specs.declared.turns.Refusal.{Refusal}
 use Rattle.shared_book.specs.declared.turns.Refusal.TheVariants as refusal
 
@@ -24,7 +29,6 @@ MayPass (call.Tick now) = ⊥
 MayPass (call.Take id most) = ⊤
 MayPass (call.Close id) = ⊥
 
--- the answer of a turn that added no entry: behind one, the rest of a batch is passed
 abbrev pub adds_none : BookReply → Bool
 adds_none (Admitted n id) = false
 adds_none (Ran n) = false
@@ -34,11 +38,10 @@ adds_none (Bytes n bytes) = false
 adds_none (Closed n) = false
 adds_none (Refused r) = true
 
--- the step may refuse a Run of the connection so
-abbrev pub RefusesRun : Shared → ℕ → BookRefusal → Type 0
-RefusesRun s id because =
-    (words : List (List ℕ)) (now : ℕ)
-    → BookStep s.limits s.past (call.Run id words now) (Refused because) s.past
+-- the answer of a turn that added no entry: behind one, the rest of a batch is passed
+abbrev pub ends_batch : Answer → Bool
+ends_batch (Told reply) = adds_none reply
+ends_batch (Held back) = true
 
 -- the step may answer a Take of the connection so, and it adds no entry
 abbrev pub PassesTake : Shared → ℕ → BookReply → Type 0
@@ -77,6 +80,17 @@ pub record RunsAndTakes (id now count : ℕ) (requests : List (List (List ℕ)))
   pub fits : ran ≤ length middle.seen
   pub takes : Takes id front middle after
 
+-- The first of the requests run, and these calls of the others come back. So many ran before.
+pub record HoldsBack (id now count : ℕ) (requests : List (List (List ℕ))) (ran : ℕ)
+    (back : List BookCall) (before after : Place) : Type 0 where
+  pub first : List (List (List ℕ))
+  pub parts : requests ≡ first ++ requests_in back
+  pub each : RunsEach id now first before after
+  pub counted : ran ≡ count + length first
+  pub fits : ran ≤ length after.seen
+  pub runs : All (IsRunAt id now) back
+  pub some : 0 < length (requests_in back)
+
 -- The first of the requests run, and the one behind them is refused, or the Take where all ran.
 pub record RunsFirst (id now count : ℕ) (requests : List (List (List ℕ))) (ran : ℕ)
     (cause : Refusal) (before after : Place) : Type 0 where
@@ -87,50 +101,99 @@ pub record RunsFirst (id now count : ℕ) (requests : List (List (List ℕ))) (r
   pub cause_is : IsCause runs_on id cause after
   pub take_is : number ≡ length requests → IsCause gives_on id cause after
 
+-- what became of the requests, of which so many ran, with those before
+abbrev pub EndsSo : ℕ → ℕ → ℕ → List (List (List ℕ)) → ℕ → BatchEnd → Place → Place → Type 0
+EndsSo id now count requests ran (ends.Taken front) before after =
+    RunsAndTakes id now count requests ran front before after
+EndsSo id now count requests ran (ends.Held calls) before after =
+    HoldsBack id now count requests ran calls.items before after
+EndsSo id now count requests ran (ends.Refused cause) before after =
+    RunsFirst id now count requests ran cause before after
+
+-- ---- what the answers of a batch tell
+
 abbrev pub refusal_by : BookRefusal → Refusal
 refusal_by (because.Gone id) = refusal.Dropped
 refusal_by because.NoMemory = refusal.NoMemory
 refusal_by because.Stopped = refusal.Stopped
 
--- how many Runs the replies tell of, up to the first that is none
-abbrev pub ran_in : List BookReply → ℕ
+-- what a Run is answered
+abbrev pub IsOfRun : Answer → Type 0
+IsOfRun (Told (Admitted n id)) = ⊥
+IsOfRun (Told (Ran n)) = ⊤
+IsOfRun (Told (Ticked n)) = ⊥
+IsOfRun (Told Quiet) = ⊥
+IsOfRun (Told (Bytes n bytes)) = ⊥
+IsOfRun (Told (Closed n)) = ⊥
+IsOfRun (Told (Refused r)) = ⊤
+IsOfRun (Held back) = ⊤
+
+-- what the Take behind the Runs is answered
+abbrev pub IsOfTake : Answer → Type 0
+IsOfTake (Told (Admitted n id)) = ⊥
+IsOfTake (Told (Ran n)) = ⊥
+IsOfTake (Told (Ticked n)) = ⊥
+IsOfTake (Told Quiet) = ⊤
+IsOfTake (Told (Bytes n bytes)) = ⊤
+IsOfTake (Told (Closed n)) = ⊥
+IsOfTake (Told (Refused r)) = ⊤
+IsOfTake (Held back) = ⊥
+
+-- how many Runs the answers tell of, up to one that was refused
+abbrev pub ran_in : List Answer → ℕ
 ran_in [] = 0
-ran_in (Admitted n id ∷ replies) = 0
-ran_in (Ran n ∷ replies) = suc (ran_in replies)
-ran_in (Ticked n ∷ replies) = 0
-ran_in (Quiet ∷ replies) = 0
-ran_in (Bytes n bytes ∷ replies) = 0
-ran_in (Closed n ∷ replies) = 0
-ran_in (Refused r ∷ replies) = 0
-
--- what the Take behind the Runs was answered, or the first refusal
-abbrev pub taken_in : List BookReply → Result (Option Octets) Refusal
-taken_in [] = Ok None
-taken_in (Admitted n id ∷ replies) = Ok None
-taken_in (Ran n ∷ replies) = taken_in replies
-taken_in (Ticked n ∷ replies) = Ok None
-taken_in (Quiet ∷ replies) = Ok None
-taken_in (Bytes n bytes ∷ replies) = Ok (Some bytes)
-taken_in (Closed n ∷ replies) = Ok None
-taken_in (Refused r ∷ replies) = Err (refusal_by r)
-
--- what a Run or a Take is answered
-abbrev pub IsOfBatch : BookReply → Type 0
-IsOfBatch (Admitted n id) = ⊥
-IsOfBatch (Ran n) = ⊤
-IsOfBatch (Ticked n) = ⊥
-IsOfBatch Quiet = ⊤
-IsOfBatch (Bytes n bytes) = ⊤
-IsOfBatch (Closed n) = ⊥
-IsOfBatch (Refused r) = ⊤
+ran_in (Told (Admitted n id) ∷ answers) = 0
+ran_in (Told (Ran n) ∷ answers) = suc (ran_in answers)
+ran_in (Told (Ticked n) ∷ answers) = 0
+ran_in (Told Quiet ∷ answers) = 0
+ran_in (Told (Bytes n bytes) ∷ answers) = 0
+ran_in (Told (Closed n) ∷ answers) = 0
+ran_in (Told (Refused r) ∷ answers) = 0
+ran_in (Held back ∷ answers) = ran_in answers
 
 -- the numbers of the Runs' entries are past the number of requests that ran before each
-abbrev pub Counts : ℕ → List BookReply → Type 0
+abbrev pub Counts : ℕ → List Answer → Type 0
 Counts count [] = ⊤
-Counts count (Admitted n id ∷ replies) = ⊤
-Counts count (Ran n ∷ replies) = (count < n) × Counts (suc count) replies
-Counts count (Ticked n ∷ replies) = ⊤
-Counts count (Quiet ∷ replies) = ⊤
-Counts count (Bytes n bytes ∷ replies) = ⊤
-Counts count (Closed n ∷ replies) = ⊤
-Counts count (Refused r ∷ replies) = ⊤
+Counts count (Told (Admitted n id) ∷ answers) = ⊤
+Counts count (Told (Ran n) ∷ answers) = (count < n) × Counts (suc count) answers
+Counts count (Told (Ticked n) ∷ answers) = ⊤
+Counts count (Told Quiet ∷ answers) = ⊤
+Counts count (Told (Bytes n bytes) ∷ answers) = ⊤
+Counts count (Told (Closed n) ∷ answers) = ⊤
+Counts count (Told (Refused r) ∷ answers) = ⊤
+Counts count (Held back ∷ answers) = Counts count answers
+
+-- these calls come back, unless memory runs out for their list
+abbrev pub ComesBack : List BookCall → BatchEnd → Type 0
+ComesBack back (ends.Taken front) = ⊥
+ComesBack back (ends.Held calls) = calls.items ≡ back
+ComesBack back (ends.Refused cause) = cause ≡ refusal.NoMemory
+
+-- what the answer to the Take tells of the end
+abbrev pub TakeTells : Answer → BatchEnd → Type 0
+TakeTells (Told (Admitted n id)) end = ⊥
+TakeTells (Told (Ran n)) end = ⊥
+TakeTells (Told (Ticked n)) end = ⊥
+TakeTells (Told Quiet) end = end ≡ ends.Taken None
+TakeTells (Told (Bytes n bytes)) end = end ≡ ends.Taken (Some bytes)
+TakeTells (Told (Closed n)) end = ⊥
+TakeTells (Told (Refused r)) end = end ≡ ends.Refused (refusal_by r)
+TakeTells (Held back) end = ⊥
+
+-- what the answers tell where all requests ran, or these calls came back
+abbrev pub IsLast : List BookCall → Answer → BatchEnd → Type 0
+IsLast [] last end = TakeTells last end
+IsLast (one ∷ back) last end = ComesBack (one ∷ back) end
+
+-- what the answers to the Runs, and that to the Take, tell of the end, behind these that came back
+abbrev pub Tells : List BookCall → List Answer → Answer → BatchEnd → Type 0
+Tells back [] last end = IsLast back last end
+Tells back (Told (Admitted n id) ∷ answers) last end = ⊥
+Tells back (Told (Ran n) ∷ answers) last end = Tells back answers last end
+Tells back (Told (Ticked n) ∷ answers) last end = ⊥
+Tells back (Told Quiet ∷ answers) last end = ⊥
+Tells back (Told (Bytes n bytes) ∷ answers) last end = ⊥
+Tells back (Told (Closed n) ∷ answers) last end = ⊥
+Tells back (Told (Refused r) ∷ answers) last end = end ≡ ends.Refused (refusal_by r)
+Tells back (Held one ∷ answers) last end =
+    Tells (back ++ one ∷ []) answers last end ⊎ (end ≡ ends.Refused refusal.NoMemory)

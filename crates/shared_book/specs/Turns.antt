@@ -9,22 +9,52 @@ use Rattle.serial_model.specs.declared.history.Limits.{Limits}
 use Rattle.serial_model.specs.declared.history.Entry.{Entry}
 use Rattle.serial_model.specs.declared.history.Entry.TheVariants as entry
 use Rattle.serial_model.specs.declared.history.BookCall.{BookCall}
+use Rattle.serial_model.specs.declared.history.BookCall.TheVariants as asks
 use Rattle.serial_model.specs.declared.history.BookReply.{BookReply}
 use Rattle.serial_model.specs.History.{admitted, expired, gives_on, latest, reads_on, runs_on}
 use Rattle.serial_model.specs.History.{is_stopped, unsent}
 use Rattle.serial_model.specs.Steps.{BookStep}
-use Rattle.seat_turns.specs.Own.{past_of, Grows}
+use Rattle.turn_lock.specs.Own.{past_of, Grows}
+use Rattle.turn_lock.specs.Turns.{Plays}
+use Rattle.shared_book.specs.declared.logged.Answer.{Answer}
+use Rattle.shared_book.specs.declared.logged.Answer.TheVariants.{Told, Held}
 use Rattle.shared_book.specs.declared.turns.Refusal.{Refusal}
 use Rattle.shared_book.specs.declared.turns.Refusal.TheVariants as refusal
+use Rattle.shared_book.specs.declared.turns.Ran.{Ran}
+use Rattle.shared_book.specs.declared.turns.Ran.TheVariants as came
 
 -- the limits and the history of a book that threads take turns on
 pub record Shared : Type 0 where
   pub limits : Limits
   pub past : List Entry
 
--- the step on this past may give this reply and add this entry, or none
-abbrev pub TurnStep : Limits → List Entry → BookCall → BookReply → Option Entry → Type 0
-TurnStep l past call reply entry = BookStep l past call reply (past_after past entry)
+-- the book's step on this past may give this reply and add this entry, or none
+abbrev pub BookTurn : Limits → List Entry → BookCall → BookReply → Option Entry → Type 0
+BookTurn l past call reply entry = BookStep l past call reply (past_after past entry)
+
+abbrev pub is_run : BookCall → Bool
+is_run asks.Admit = false
+is_run (asks.Run id words now) = true
+is_run (asks.Tick now) = false
+is_run (asks.Take id n) = false
+is_run (asks.Close id) = false
+
+-- a turn under the lock: one of the book; or the call, which is a Run, comes back unplayed
+abbrev pub TurnStep : Limits → List Entry → BookCall → Answer → Option Entry → Type 0
+TurnStep l past call (Told reply) entry = BookTurn l past call reply entry
+TurnStep l past call (Held back) entry = (back ≡ call) × (is_run call ≡ true) × (entry ≡ None)
+
+-- the most bytes of one Take
+abbrev pub most : ℕ
+most = 65536
+
+-- a Run of a connection for which as much waits as one Take may give, or more
+abbrev pub IsHeldBack : Limits → List Entry → BookCall → Type 0
+IsHeldBack l past asks.Admit = ⊥
+IsHeldBack l past (asks.Run id words now) = most ≤ length (unsent l id past)
+IsHeldBack l past (asks.Tick now) = ⊥
+IsHeldBack l past (asks.Take id n) = ⊥
+IsHeldBack l past (asks.Close id) = ⊥
 
 -- an entry with the entries before it
 abbrev pub Turn : Type 0
@@ -87,6 +117,19 @@ pub record Runs (id : ℕ) (words : List (List ℕ)) (now : ℕ) (before after :
   pub grows : Grows before after ((entry.Run id words (max now (latest past)), past) ∷ [])
   pub ends : past_of after ≡ entry.Run id words (max now (latest past)) ∷ past
 
+-- a turn of the book was played; or the call, a Run, comes back, and none was
+abbrev pub PlaysOne : BookCall → Answer → Place → Place → Type 0
+PlaysOne call (Told reply) before after = Plays BookTurn call reply before after
+PlaysOne call (Held back) before after =
+    (back ≡ call) × (is_run call ≡ true) × Grows before after []
+
+-- it ran, and this is the number of its entry; or it comes back, and was not played
+abbrev pub MayRun : ℕ → List (List ℕ) → ℕ → Ran → Place → Place → Type 0
+MayRun id words now (came.Entry n) before after =
+    Runs id words now before after × (n ≡ length after.seen)
+MayRun id words now (came.Held back) before after =
+    (back ≡ asks.Run id words now) × Grows before after []
+
 -- a Take that gave these bytes
 pub record Gives (id most : ℕ) (bytes : List ℕ) (before after : Place) : Type 0 where
   pub past : List Entry
@@ -125,10 +168,6 @@ pub record Closes (id : ℕ) (before after : Place) : Type 0 where
   pub keeps : reads_on (limits_of before) past id ≡ true
   pub grows : Grows before after ((entry.Close id, past) ∷ [])
   pub ends : past_of after ≡ entry.Close id ∷ past
-
--- the most bytes of one Take
-abbrev pub most : ℕ
-most = 65536
 
 abbrev pub Takes : ℕ → Option Octets → Place → Place → Type 0
 Takes id (Some bytes) before after = Gives id most bytes before after × (0 < length bytes)

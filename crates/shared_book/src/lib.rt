@@ -3,8 +3,10 @@
 
 mod batch;
 mod logged;
+mod posted;
 mod turns;
 
-pub use batch::{Batch, run_all};
-pub use logged::{SharedBook, open};
-pub use turns::{MOST, Refusal, admit, close, run, take, tick};
+pub use batch::{Batch, BatchEnd, run_all};
+pub use logged::{Answer, Opened, SharedBook, open, open_told};
+pub use posted::{Ids, Posted};
+pub use turns::{MOST, Ran, Refusal, admit, close, run, take, tick};

@@ -1,22 +1,35 @@
 //! The server's state, as it is kept under the turn lock.
-ghost use Rattle.std.specs.Prelude.{◌≡◌, [], IfOk};
+ghost use Rattle.std.specs.Prelude.{◌≡◌, [], true, IfOk};
 ghost use Rattle.serial_model.specs.Steps.{AreValid, IsCallable};
-ghost use Rattle.seat_turns.specs.Own.{IsWithin};
-ghost use Rattle.shared_book.specs.Turns.{TurnStep};
-ghost use Rattle.shared_book.specs.Batches.{MayPass, PassesTake, RefusesRun, adds_none};
+ghost use Rattle.turn_lock.specs.Own.{IsWithin};
+ghost use Rattle.shared_book.specs.Turns.{IsHeldBack, TurnStep};
+ghost use Rattle.shared_book.specs.Batches.{MayPass, PassesTake, ends_batch};
 ghost use Rattle.turn_lock.specs.Seats.{first_seat};
 
+use super::posted::{Posted, caller_of};
+use super::turns::MOST;
 use resp_value::NoMemory;
 use server_book::{Book, BookCall, BookRefusal, BookReply, Entry, Limits};
 use std::alloc::Global;
 use std::marker::Model;
 use turn_lock::{Logged, Refusing, Seat, TurnLock};
 
+/// What a turn under the lock answers.
+#[derive(Debug, Drop)]
+pub enum Answer {
+    /// The reply of the book.
+    Told(BookReply),
+    /// This Run, which was not played: its connection is to take what waits for it first, or a call
+    /// before it in its batch added no entry.
+    Held(BookCall),
+}
+
 /// A book that threads take turns on. Contracts see its limits and its history.
 #[derive(Drop)]
 pub struct SharedBook {
     limits: Limits,
     book: Book,
+    posted: Posted,
 }
 
 impl Model for SharedBook {
@@ -39,6 +52,7 @@ impl SharedBook {
         Ok(SharedBook {
             limits,
             book: Book::new(alloc, limits)?,
+            posted: Posted::new(alloc)?,
         })
     }
 
@@ -49,15 +63,14 @@ impl SharedBook {
         &self.book
     }
 
-    // The refusal of a Run that is not to be played: for want of memory, where it would be played.
-    #[tactic(auto, using(crate::proofs::Passing::refusing))]
-    fn refuse_run(&self, id: u64) -> BookRefusal
-        ensures { RefusesRun self.now id result }
+    // Whether a call is a Run of a connection for which `MOST` bytes or more wait.
+    fn is_held_back(&self, call: &BookCall) -> bool
+        ensures { result ≡ true → IsHeldBack self.now.limits self.now.past call.now }
     {
-        if !self.book.runs_on(id) {
-            return BookRefusal::Gone { id };
+        match call {
+            BookCall::Run { id, .. } => self.book.gives_on(*id) && self.book.waiting(*id) >= MOST,
+            _ => false,
         }
-        BookRefusal::NoMemory
     }
 
     // The answer to a Take that is not to be played: that nothing waits, where that is so.
@@ -82,7 +95,7 @@ impl Logged for SharedBook {
 
     type Call = BookCall;
 
-    type Reply = BookReply;
+    type Reply = Answer;
 
     ghost setup = { λ s. s.limits };
 
@@ -93,28 +106,61 @@ impl Logged for SharedBook {
     ghost step = { TurnStep };
 
     #[tactic(auto, using(crate::proofs::Did::turned))]
-    fn turn(&mut self, call: BookCall) -> BookReply {
-        self.book.turn(call)
+    fn turn(&mut self, call: BookCall) -> Answer {
+        if self.is_held_back(&call) {
+            return Answer::Held(call);
+        }
+        let caller = caller_of(&call);
+        let reply = self.book.turn(call);
+        self.posted.mark(caller, &self.book);
+        Answer::Told(reply)
     }
 }
 
 impl Refusing for SharedBook {
-    ghost refuses = { adds_none };
+    ghost refuses = { ends_batch };
 
     ghost refusable = { MayPass };
 
-    fn is_refusal(reply: &BookReply) -> bool {
-        matches!(reply, BookReply::Refused(_) | BookReply::Quiet)
+    fn is_refusal(answer: &Answer) -> bool {
+        matches!(
+            answer,
+            Answer::Held(_) | Answer::Told(BookReply::Refused(_)) | Answer::Told(BookReply::Quiet)
+        )
     }
 
-    fn refuse(&self, call: BookCall) -> BookReply {
+    fn refuse(&self, call: BookCall) -> Answer {
         match call {
-            BookCall::Run { id, .. } => BookReply::Refused(self.refuse_run(id)),
-            BookCall::Take { id, .. } => self.pass_take(id),
+            BookCall::Run { id, words, now } => Answer::Held(BookCall::Run { id, words, now }),
+            BookCall::Take { id, .. } => Answer::Told(self.pass_take(id)),
             BookCall::Admit => unreachable!(),
             BookCall::Tick { .. } => unreachable!(),
             BookCall::Close { .. } => unreachable!(),
         }
+    }
+}
+
+/// A server before its first turn.
+#[derive(Drop)]
+pub struct Opened {
+    pub lock: TurnLock<SharedBook>,
+    /// The first seat.
+    pub seat: Seat<SharedBook>,
+    /// Whom its turns send something to.
+    pub posted: Posted,
+}
+
+/// A lock with a server before its first turn, and what tells whom its turns concern.
+pub fn open_told(alloc: Global, limits: Limits) -> Result<Opened, NoMemory>
+    requires { AreValid limits }
+    ensures seat { IfOk result (λ o. o.seat ≡ first_seat o.lock limits) }
+    ensures within { IfOk result (λ o. IsWithin o.seat) }
+{
+    let shared = SharedBook::new(alloc, limits)?;
+    let posted = shared.posted.share()?;
+    match TurnLock::create(alloc, shared) {
+        Ok((lock, seat)) => Ok(Opened { lock, seat, posted }),
+        Err(_) => Err(NoMemory),
     }
 }
 
@@ -127,8 +173,6 @@ pub fn open(
     ensures seat { IfOk result (λ r. r.1 ≡ first_seat r.0 limits) }
     ensures within { IfOk result (λ r. IsWithin r.1) }
 {
-    match TurnLock::create(alloc, SharedBook::new(alloc, limits)?) {
-        Ok(opened) => Ok(opened),
-        Err(_) => Err(NoMemory),
-    }
+    let Opened { lock, seat, .. } = open_told(alloc, limits)?;
+    Ok((lock, seat))
 }

@@ -1,19 +1,20 @@
 //! One connection's turns under the lock.
-ghost use Rattle.std.specs.Prelude.{◌≡◌, ◌≤◌, [], true, length, IfOk, IfErr};
-ghost use Rattle.std.specs.Prelude.{OnOk};
+ghost use Rattle.std.specs.Prelude.{◌≡◌, ◌≤◌, [], true, false, IfOk, IfErr};
+ghost use Rattle.std.specs.Prelude.{OnErr, OnOk};
 ghost use Rattle.turn_lock.specs.declared.rule.TheConstants.{LAST_TICKET};
 ghost use Rattle.serial_model.specs.History.{gives_on, is_admitted, runs_on};
 ghost use Rattle.serial_model.specs.Steps.{IsCallable};
-ghost use Rattle.seat_turns.specs.Own.{IsWithin, past_of};
-ghost use Rattle.shared_book.specs.Turns.{Admits, Closes, IsCause, IsCloseCause, IsServerCause};
-ghost use Rattle.shared_book.specs.Turns.{Refuses, Runs, Takes, Ticks};
+ghost use Rattle.turn_lock.specs.Own.{Grows, IsWithin, past_of};
+ghost use Rattle.turn_lock.specs.Turns.{Plays};
+ghost use Rattle.shared_book.specs.Turns.{Admits, BookTurn, Closes, IsCause, IsCloseCause};
+ghost use Rattle.shared_book.specs.Turns.{IsServerCause, MayRun, PlaysOne, Refuses, Takes, Ticks};
+ghost use Rattle.shared_book.specs.Turns.{is_run};
 
-use super::logged::SharedBook;
+use super::logged::{Answer, SharedBook};
 use resp_value::{Octets, Words};
-use seat_turns::play;
 use server_book::{BookCall, BookRefusal, BookReply};
 use std::sync::Wait;
-use turn_lock::{Seat, TurnLock};
+use turn_lock::{Seat, TurnLock, Worn, play};
 
 /// Why a connection's turn was not taken.
 #[derive(Clone, Copy, Debug, Drop, PartialEq, Eq)]
@@ -27,8 +28,57 @@ pub enum Refusal {
     Stopped,
 }
 
+/// What became of a request whose turn was taken.
+#[derive(Debug, Drop)]
+pub enum Ran {
+    /// It ran; the number of its entry.
+    Entry(u64),
+    /// Its call, which was not played: the connection is to take what waits for it first.
+    Held(BookCall),
+}
+
 /// The most bytes of one Take.
 pub const MOST: u64 = 65_536;
+
+// One turn: the book's reply, or the call, if it is a Run that was not played.
+fn play_one<R: Wait>(
+    rt: &R,
+    lock: &TurnLock<SharedBook>,
+    seat: &mut Seat<SharedBook>,
+    call: BookCall,
+) -> Result<Answer, Worn>
+    requires lock { seat.old.lock ≡ lock.now }
+    requires within { IsWithin seat.old }
+    requires call { IsCallable call }
+    ensures ok { IfOk result (λ answer. PlaysOne call answer seat.old seat.new) }
+    ensures err { OnErr result (Grows seat.old seat.new [] × (LAST_TICKET ≤ seat.new.tickets)) }
+{
+    match play(rt, lock, seat, call) {
+        Ok(answer) => Ok(answer),
+        Err(worn) => Err(worn),
+    }
+}
+
+// The book's reply to a call that is no Run.
+fn reply_to<R: Wait>(
+    rt: &R,
+    lock: &TurnLock<SharedBook>,
+    seat: &mut Seat<SharedBook>,
+    call: BookCall,
+) -> Result<BookReply, Worn>
+    requires lock { seat.old.lock ≡ lock.now }
+    requires within { IsWithin seat.old }
+    requires call { IsCallable call }
+    requires other { is_run call ≡ false }
+    ensures ok { IfOk result (λ reply. Plays BookTurn call reply seat.old seat.new) }
+    ensures err { OnErr result (Grows seat.old seat.new [] × (LAST_TICKET ≤ seat.new.tickets)) }
+{
+    match play_one(rt, lock, seat, call) {
+        Ok(Answer::Told(reply)) => Ok(reply),
+        Ok(Answer::Held(_)) => unreachable!(),
+        Err(worn) => Err(worn),
+    }
+}
 
 /// Admits a connection; its id is at least 1. Behind a SHUTDOWN none is admitted.
 #[tactic(auto, using(crate::proofs::Outcomes::admitting))]
@@ -42,7 +92,7 @@ pub fn admit<R: Wait>(
     ensures ok { IfOk result (λ id. Admits id seat.old seat.new) }
     ensures err { IfErr result (λ e. Refuses IsServerCause e seat.old seat.new) }
 {
-    match play(rt, lock, seat, BookCall::Admit) {
+    match reply_to(rt, lock, seat, BookCall::Admit) {
         Ok(BookReply::Admitted { id, .. }) => Ok(id),
         Ok(BookReply::Refused(BookRefusal::NoMemory)) => Err(Refusal::NoMemory),
         Ok(BookReply::Refused(BookRefusal::Stopped)) => Err(Refusal::Stopped),
@@ -56,7 +106,8 @@ pub fn admit<R: Wait>(
     }
 }
 
-/// Runs a request at this moment; the answer is the number of its entry.
+/// Runs a request at this moment. Where `MOST` bytes or more wait for the connection it is held
+/// back.
 #[tactic(auto, using(crate::proofs::Outcomes::running))]
 pub fn run<R: Wait>(
     rt: &R,
@@ -65,25 +116,28 @@ pub fn run<R: Wait>(
     id: u64,
     words: Words,
     now: u64,
-) -> Result<u64, Refusal>
+) -> Result<Ran, Refusal>
     requires lock { seat.old.lock ≡ lock.now }
     requires within { IsWithin seat.old }
     requires admitted { is_admitted (past_of seat.old) id ≡ true }
-    ensures ok { IfOk result (λ entry. Runs id words now seat.old seat.new
-        × (entry ≡ length seat.new.seen)) }
+    ensures ok { IfOk result (λ ran. MayRun id words now ran seat.old seat.new) }
     ensures err { IfErr result (λ e. Refuses (IsCause runs_on id) e seat.old seat.new) }
 {
-    match play(rt, lock, seat, BookCall::Run { id, words, now }) {
-        Ok(BookReply::Ran { entry }) => Ok(entry),
-        Ok(BookReply::Refused(BookRefusal::Gone { .. })) => Err(Refusal::Dropped),
-        Ok(BookReply::Refused(BookRefusal::NoMemory)) => Err(Refusal::NoMemory),
-        Ok(BookReply::Admitted { .. }) => unreachable!(),
-        Ok(BookReply::Quiet) => unreachable!(),
-        Ok(BookReply::Bytes { .. }) => unreachable!(),
-        Ok(BookReply::Closed { .. }) => unreachable!(),
-        Ok(BookReply::Ticked { .. }) => unreachable!(),
-        Ok(BookReply::Refused(BookRefusal::Stopped)) => unreachable!(),
-        Err(_) => Err(Refusal::Worn),
+    let reply = match play_one(rt, lock, seat, BookCall::Run { id, words, now }) {
+        Ok(Answer::Told(reply)) => reply,
+        Ok(Answer::Held(call)) => return Ok(Ran::Held(call)),
+        Err(_) => return Err(Refusal::Worn),
+    };
+    match reply {
+        BookReply::Ran { entry } => Ok(Ran::Entry(entry)),
+        BookReply::Refused(BookRefusal::Gone { .. }) => Err(Refusal::Dropped),
+        BookReply::Refused(BookRefusal::NoMemory) => Err(Refusal::NoMemory),
+        BookReply::Admitted { .. } => unreachable!(),
+        BookReply::Quiet => unreachable!(),
+        BookReply::Bytes { .. } => unreachable!(),
+        BookReply::Closed { .. } => unreachable!(),
+        BookReply::Ticked { .. } => unreachable!(),
+        BookReply::Refused(BookRefusal::Stopped) => unreachable!(),
     }
 }
 
@@ -101,7 +155,7 @@ pub fn take<R: Wait>(
     ensures ok { IfOk result (λ bytes. Takes id bytes seat.old seat.new) }
     ensures err { IfErr result (λ e. Refuses (IsCause gives_on id) e seat.old seat.new) }
 {
-    match play(rt, lock, seat, BookCall::Take { id, max: MOST }) {
+    match reply_to(rt, lock, seat, BookCall::Take { id, max: MOST }) {
         Ok(BookReply::Bytes { bytes, .. }) => Ok(Some(bytes)),
         Ok(BookReply::Quiet) => Ok(None),
         Ok(BookReply::Refused(BookRefusal::Gone { .. })) => Err(Refusal::Dropped),
@@ -129,7 +183,7 @@ pub fn tick<R: Wait>(
     ensures ok { OnOk result (Ticks now seat.old seat.new) }
     ensures err { IfErr result (λ e. Refuses IsServerCause e seat.old seat.new) }
 {
-    match play(rt, lock, seat, BookCall::Tick { now }) {
+    match reply_to(rt, lock, seat, BookCall::Tick { now }) {
         Ok(BookReply::Ticked { .. }) => Ok(()),
         Ok(BookReply::Quiet) => Ok(()),
         Ok(BookReply::Refused(BookRefusal::NoMemory)) => Err(Refusal::NoMemory),
@@ -157,7 +211,7 @@ pub fn close<R: Wait>(
     ensures ok { OnOk result (Closes id seat.old seat.new) }
     ensures err { IfErr result (λ e. Refuses (IsCloseCause id) e seat.old seat.new) }
 {
-    match play(rt, lock, seat, BookCall::Close { id }) {
+    match reply_to(rt, lock, seat, BookCall::Close { id }) {
         Ok(BookReply::Closed { .. }) => Ok(()),
         Ok(BookReply::Refused(BookRefusal::Gone { .. })) => Err(Refusal::Dropped),
         Ok(BookReply::Admitted { .. }) => unreachable!(),

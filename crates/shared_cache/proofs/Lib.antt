@@ -11,7 +11,7 @@ pub mod MarkLists
 pub mod PendingLists
 pub mod PendingFront
 pub mod InPlace
-pub mod NewestFirst
+pub mod EndsLeft
 pub mod OtherTurns
 pub mod Asks
 pub mod Gots

@@ -39,7 +39,7 @@ use Rattle.shared_cache.specs.ClientFields.{Fields, Reflects, IsLast, there, pen
 use Rattle.shared_cache.specs.ClientFields.{waits_for, names_for}
 use Rattle.shared_cache.proofs.Fetches.{beyond, unless_none}
 use Rattle.shared_cache.proofs.HeldLists.{held_none}
-use Rattle.shared_cache.proofs.NewestFirst.{on_wire}
+use Rattle.shared_cache.proofs.EndsLeft.{on_wire}
 use Rattle.shared_cache.proofs.Keeps.{keeps_none, keeps_forgotten, keeps_same}
 use Rattle.shared_cache.proofs.KeyPairs.{pairs_found}
 use Rattle.shared_cache.proofs.Places.{pairs_placed}

@@ -161,7 +161,8 @@ client_step s log (Got w v) =
 client_step s log (End w) =
     record { reply = Noted; past = if is_ended s.mode w log then log else entry.End w ∷ log }
 
--- a Poll and an end have their room in the log from the start; other entries take memory
+-- a Poll and an end have their numbers from the start; for another entry there may be none left, or
+-- no memory
 abbrev pub NeedsRoom : LogEntry → Type 0
 NeedsRoom (entry.Ask q) = Unit {0}
 NeedsRoom (entry.Send ws) = Unit {0}

@@ -1,8 +1,8 @@
 //! The client's state: one turn at a time.
-ghost use Rattle.std.specs.Prelude.{◌≡◌, ◌+◌, ◌<◌, ◌≤◌, ◌∷◌, [], ℕ, IfOk, OnOk, OnErr, reverse};
-ghost use Rattle.std.specs.Prelude.{length};
+ghost use Rattle.std.specs.Prelude.{◌≡◌, ◌+◌, ◌<◌, ◌≤◌, ◌∷◌, [], ℕ, IfOk, OnOk, OnErr, length};
 
 use super::cache::{forget_all, invalidate, mark, refill};
+use super::counted_log::CountedLog;
 use super::entry::CacheEntry;
 use super::handshake::{
     greeting, handshake_length, id_after, is_welcome, side_length, tracking_behind,
@@ -17,6 +17,7 @@ use super::side::{SideLink, has_ended_by};
 use byte_queue::ByteQueue;
 use command_words::{Query, is_control, written_by};
 use fill_mark::Marks;
+use past_entries::Past;
 use resp_value::{NoMemory, Octets, Value, Words};
 use std::alloc::Global;
 use std::marker::Model;
@@ -31,8 +32,8 @@ pub struct ClientState {
     mode: ClientMode,
     capacity: u64,
     log_max: u64,
-    // it has room for an end of each link, and for a Poll of each number that is owed
-    log: Vec<LogEntry>,
+    // an end of each link, and a Poll of each number that is owed, can still be counted
+    log: CountedLog,
     // the bytes for Main that were not taken
     queued: ByteQueue,
     replied: u64,
@@ -49,7 +50,7 @@ pub struct ClientState {
 }
 
 impl Model for ClientState {
-    ghost use Rattle.std.specs.Prelude.{◌+◌, ◌≤◌, reverse, cond, vec_len, vec_capacity};
+    ghost use Rattle.std.specs.Prelude.{◌+◌, ◌<◌, ◌^◌, length, cond};
     ghost use Rattle.shared_cache.specs.ClientFields.{Client, Reflects};
     ghost use Rattle.std.specs.Coded.{codes};
     ghost use Rattle.resp_value.specs.TreeCoding.{tree_code};
@@ -60,12 +61,12 @@ impl Model for ClientState {
 
     ghost view = { λ c. record {
       setup = record { mode = c.mode; capacity = c.capacity; log_max = c.log_max };
-      past = reverse c.log.items;
+      past = c.log;
     } };
 
     ghost invariant = { λ c. record {
       reflects : Reflects (record { mode = c.mode; capacity = c.capacity; log_max = c.log_max })
-          (reverse c.log.items)
+          c.log
           (record {
             queued = c.queued;
             replied = c.replied;
@@ -78,8 +79,7 @@ impl Model for ClientState {
             ended = c.ended;
             broken = c.broken;
           });
-      room : vec_len c.log + c.owed + cond c.ended 0 1 + cond c.side.ended 0 1
-          ≤ vec_capacity c.log;
+      room : length c.log + c.owed + cond c.ended 0 1 + cond c.side.ended 0 1 < 2 ^ 64;
     } };
 }
 
@@ -126,7 +126,7 @@ impl ClientState {
             mode,
             capacity,
             log_max,
-            log: Vec::with_capacity(alloc, 2)?,
+            log: CountedLog::new(),
             queued,
             replied: 0,
             side,
@@ -140,11 +140,18 @@ impl ClientState {
         })
     }
 
-    /// The entries so far, the oldest first.
-    pub fn log(&self) -> &[LogEntry]
-        ensures { result.now ≡ reverse self.now.past }
+    /// The entries so far, which are in no memory.
+    pub fn log(&self) -> &Past<LogEntry>
+        ensures { result.now ≡ self.now.past }
     {
-        self.log.as_slice()
+        self.log.past()
+    }
+
+    /// How many entries the log has.
+    pub fn entries(&self) -> u64
+        ensures { result ≡ length self.now.past }
+    {
+        self.log.len()
     }
 
     /// What is held, in byte order of the query's printed words: the query, the value, and the
@@ -225,16 +232,10 @@ impl ClientState {
         self.is_caching() && covers(&self.mode.caching, key)
     }
 
-    fn entries(&self) -> u64
-        ensures { result ≡ length self.now.past }
-    {
-        self.log.len() as u64
-    }
-
     fn is_log_full(&self) -> bool
         ensures { result ≡ is_log_full self.now.setup self.now.past }
     {
-        self.log.len() as u64 >= self.log_max
+        self.log.len() >= self.log_max
     }
 
     // The link ends by this entry.
@@ -249,7 +250,7 @@ impl ClientState {
         let side = has_ended_by(self.mode.shape, wire, Wire::Side, ready, self.side.ended);
         self.ended = main;
         self.side.ended = side;
-        self.log.push_reserved(entry);
+        self.log.record(&entry);
     }
 
     fn end(&mut self, wire: Wire) -> ClientReply
@@ -287,7 +288,7 @@ impl ClientState {
             }
             Handed::There(value) => {
                 self.owed -= 1;
-                self.log.push_reserved(LogEntry::Poll(number));
+                self.log.record(&LogEntry::Poll(number));
                 ClientReply::Answer { value }
             }
         }
@@ -310,9 +311,9 @@ impl ClientState {
         ensures err { OnErr result (self.new ≡ self.old) }
     {
         let bytes = self.queued.front(most as usize)?;
-        self.log.reserve(self.owed + 3)?;
+        self.log.reserve(self.owed, 3)?;
         self.queued.advance(most as usize);
-        self.log.push_reserved(LogEntry::TakeOut(Wire::Main, most));
+        self.log.record(&LogEntry::TakeOut(Wire::Main, most));
         Ok(bytes)
     }
 
@@ -324,9 +325,9 @@ impl ClientState {
         ensures err { OnErr result (self.new ≡ self.old) }
     {
         let bytes = self.side.queued.front(most as usize)?;
-        self.log.reserve(self.owed + 3)?;
+        self.log.reserve(self.owed, 3)?;
         self.side.queued.advance(most as usize);
-        self.log.push_reserved(LogEntry::TakeOut(Wire::Side, most));
+        self.log.record(&LogEntry::TakeOut(Wire::Side, most));
         Ok(bytes)
     }
 
@@ -382,7 +383,7 @@ impl ClientState {
     {
         let written = written_by(self.alloc, &words)?;
         let lead = self.lead_for(&words)?;
-        self.log.reserve(self.owed + 4)?;
+        self.log.reserve(self.owed, 4)?;
         enqueue(
             self.mode.shape,
             lead,
@@ -393,7 +394,7 @@ impl ClientState {
         )?;
         invalidate(&mut self.marks, &mut self.keys, &written);
         self.owed += 1;
-        self.log.push_reserved(LogEntry::Send(words));
+        self.log.record(&LogEntry::Send(words));
         Ok(handshake_length(&self.mode) + self.pending.len() as u64)
     }
 
@@ -428,9 +429,9 @@ impl ClientState {
         ensures ok { OnOk result (self.new ≡ added (entry.Ask query) self.old) }
         ensures err { OnErr result (self.new ≡ self.old) }
     {
-        self.log.reserve(self.owed + 3)?;
+        self.log.reserve(self.owed, 3)?;
         self.keys.promote(query.key());
-        self.log.push_reserved(LogEntry::Ask(query));
+        self.log.record(&LogEntry::Ask(query));
         Ok(())
     }
 
@@ -448,7 +449,7 @@ impl ClientState {
         let before = self.queued.len();
         let awaited = self.pending.len();
         let named = self.named.len();
-        self.log.reserve(self.owed + 4)?;
+        self.log.reserve(self.owed, 4)?;
         // its words read as a query, which names its key alone
         let words = query.words();
         enqueue(
@@ -470,7 +471,7 @@ impl ClientState {
             }
         }
         self.owed += 1;
-        self.log.push_reserved(LogEntry::Ask(query));
+        self.log.record(&LogEntry::Ask(query));
         Ok(number)
     }
 
@@ -527,10 +528,10 @@ impl ClientState {
         ensures err { OnErr result (self.new ≡ self.old) }
     {
         let written = invalidated(self.alloc, notice, &value)?;
-        self.log.reserve(self.owed + 3)?;
+        self.log.reserve(self.owed, 3)?;
         invalidate(&mut self.marks, &mut self.keys, &written);
         self.broken = is_broken_by(notice, self.broken);
-        self.log.push_reserved(LogEntry::Got(wire, value));
+        self.log.record(&LogEntry::Got(wire, value));
         Ok(())
     }
 
@@ -546,20 +547,19 @@ impl ClientState {
         let _ = self.pending.len();
         let before = handshake_length(&self.mode);
         let number = self.replied + 1;
-        let logged = value.copy()?;
-        self.log.reserve(self.owed + 3)?;
+        self.log.reserve(self.owed, 3)?;
         refill(
             self.alloc,
             number,
-            &logged,
+            &value,
             self.named.for_number(number, before),
             &mut self.marks,
             &mut self.keys,
         )?;
         self.named.drop_number(number, before);
+        let value = self.log.record_got(Wire::Main, value);
         put_reply(&self.mode, &mut self.pending, number, value);
         self.replied = number;
-        self.log.push_reserved(LogEntry::Got(Wire::Main, logged));
         Ok(())
     }
 
@@ -574,11 +574,11 @@ impl ClientState {
         let number = self.side.replied + 1;
         let id = id_after(self.alloc, &self.mode, number, &value, &self.side.id)?;
         let bytes = tracking_behind(self.alloc, &self.mode, number, &id)?;
-        self.log.reserve(self.owed + 3)?;
+        self.log.reserve(self.owed, 3)?;
         self.queued.add(&bytes)?;
         self.side.replied = number;
         self.side.id = id;
-        self.log.push_reserved(LogEntry::Got(Wire::Side, value));
+        self.log.record(&LogEntry::Got(Wire::Side, value));
         Ok(())
     }
 

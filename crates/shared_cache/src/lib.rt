@@ -3,6 +3,7 @@
 
 mod cache;
 mod client;
+mod counted_log;
 mod entry;
 mod handshake;
 mod held_keys;

@@ -16,9 +16,9 @@ use Rattle.byte_queue.proofs.ByteQueue.TheSendSync as queue
 use Rattle.fill_mark.proofs.marks.Marks.TheSendSync as marks
 use Rattle.shared_cache.proofs.log.Wire.TheSendSync as wire
 use Rattle.shared_cache.proofs.log.ClientMode.TheSendSync as mode
+use Rattle.shared_cache.proofs.counted_log.CountedLog.TheSendSync as log
 use Rattle.shared_cache.specs.contracts.entry.CacheEntry as entry
 use Rattle.shared_cache.specs.contracts.entry.PendingReply as pending
-use Rattle.shared_cache.specs.contracts.log.LogEntry as log
 use Rattle.shared_cache.specs.contracts.slot.Slot as slot
 use Rattle.shared_cache.specs.contracts.slot.Slot.TheInside as slot_parts
 use Rattle.shared_cache.specs.contracts.slots.SlotList as list
@@ -54,9 +54,6 @@ entry_send = search parts depth 20
 
 pending_send : IsSend pending.the_row
 pending_send = search parts depth 20
-
-log_send : IsSend log.the_row
-log_send = search parts depth 20 fits 100000
 
 ruleset of_slot = (sendable, entry_send, octets.the_send, as_row_send)
 
@@ -114,7 +111,7 @@ ruleset fields = (
   replies_send,
   named_send,
   side_send,
-  log_send,
+  log.the_send,
   queue.the_send,
   marks.the_send,
   mode.the_send,

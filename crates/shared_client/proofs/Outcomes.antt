@@ -4,11 +4,11 @@ use Rattle.std.proofs.Common.{None, inl, inr, arith}
 use Rattle.std.specs.Prelude.{Option}
 use Rattle.turn_lock.specs.History.{past_after}
 use Rattle.turn_lock.specs.declared.rule.TheConstants.{LAST_TICKET}
-use Rattle.seat_turns.specs.Own.{Grows}
-use Rattle.seat_turns.specs.Turns.{Plays}
-use Rattle.seat_turns.proofs.Turning.{grows_by, ends_by}
+use Rattle.turn_lock.specs.Own.{Grows}
+use Rattle.turn_lock.specs.Turns.{Plays}
+use Rattle.turn_lock.proofs.Turning.{grows_by, ends_by}
 use Rattle.resp_value.specs.declared.value.Value.{Value}
-use Rattle.shared_cache.specs.declared.log.Wire.TheVariants.{Main}
+use Rattle.shared_cache.specs.declared.log.Wire.{Wire}
 use Rattle.shared_cache.specs.declared.log.LogEntry.{LogEntry}
 use Rattle.shared_cache.specs.declared.log.LogEntry.TheVariants as entry
 use Rattle.shared_cache.specs.declared.log.ClientCall.{ClientCall}
@@ -122,28 +122,28 @@ module _ (before after : Place) (call : ClientCall) where
       let q = subst (λ z. Plays TurnStep call z before after) same p in
       ((said q).1.0, left_by r q o none)
 
-module _ (before after : Place) where
+module _ (before after : Place) (w : Wire) where
   -- a value that ends the link adds an entry that says so
   pub gets_not : (v : Value) (r : ClientRefusal) (reply : ClientReply) → reply ≡ Refused r
-      → Plays TurnStep (Got Main v) reply before after → GetsNot v r before after
+      → Plays TurnStep (Got w v) reply before after → GetsNot w v r before after
   gets_not v r reply same p =
-      by_case r (subst (λ z. Plays TurnStep (Got Main v) z before after) same p)
+      by_case r (subst (λ z. Plays TurnStep (Got w v) z before after) same p)
     where
-      kept : (r : ClientRefusal) → Plays TurnStep (Got Main v) (Refused r) before after
-          → entry_by (Got Main v) (Refused r) ≡ None → Refuses (Got Main v) r before after
-      kept r p = refuses before after (Got Main v) r (Refused r) refl p refl
+      kept : (r : ClientRefusal) → Plays TurnStep (Got w v) (Refused r) before after
+          → entry_by (Got w v) (Refused r) ≡ None → Refuses (Got w v) r before after
+      kept r p = refuses before after (Got w v) r (Refused r) refl p refl
 
-      bad : (r : ClientRefusal) → Plays TurnStep (Got Main v) (Refused r) before after
-          → entry_by (Got Main v) (Refused r) ≡ Some (entry.Bad Main v)
-          → is_no_memory (Refused r) ≡ false → EndsBy v r before after
-      bad r p = adds before after (Got Main v) (Refused r) p refl (entry.Bad Main v)
+      bad : (r : ClientRefusal) → Plays TurnStep (Got w v) (Refused r) before after
+          → entry_by (Got w v) (Refused r) ≡ Some (entry.Bad w v)
+          → is_no_memory (Refused r) ≡ false → EndsBy w v r before after
+      bad r p = adds before after (Got w v) (Refused r) p refl (entry.Bad w v)
 
-      by_case : (r : ClientRefusal) → Plays TurnStep (Got Main v) (Refused r) before after
-          → GetsNot v r before after
-      by_case (Unexpected w) p = bad (Unexpected w) p refl refl
-      by_case (BadPush w) p = bad (BadPush w) p refl refl
-      by_case (SetupRefused w) p = bad (SetupRefused w) p refl refl
-      by_case (Down w) p = kept (Down w) p refl
+      by_case : (r : ClientRefusal) → Plays TurnStep (Got w v) (Refused r) before after
+          → GetsNot w v r before after
+      by_case (Unexpected u) p = bad (Unexpected u) p refl refl
+      by_case (BadPush u) p = bad (BadPush u) p refl refl
+      by_case (SetupRefused u) p = bad (SetupRefused u) p refl refl
+      by_case (Down u) p = kept (Down u) p refl
       by_case NoMemory p = kept NoMemory p refl
       by_case (LogFull n) p = kept (LogFull n) p refl
       by_case NotReady p = kept NotReady p refl
@@ -151,13 +151,13 @@ module _ (before after : Place) where
       by_case (NoNumber n) p = kept (NoNumber n) p refl
       by_case Worn p = kept Worn p refl
 
-  pub ends : (reply : ClientReply) → reply ≡ Noted → Plays TurnStep (End Main) reply before after
-      → Ends before after
+  pub ends : (reply : ClientReply) → reply ≡ Noted → Plays TurnStep (End w) reply before after
+      → Ends w before after
   ends reply same p =
-      let q = subst (λ z. Plays TurnStep (End Main) z before after) same p in
+      let q = subst (λ z. Plays TurnStep (End w) z before after) same p in
       let (known, meets, e, adding, is) = said q in
       elim adding [
-        | inl one ↦ inl (adds_one q (entry.End Main) (is ∙ ap (past_after q.past) one) refl)
+        | inl one ↦ inl (adds_one q (entry.End w) (is ∙ ap (past_after q.past) one) refl)
         | inr none ↦ inr (stays_so q (is ∙ ap (past_after q.past) none) refl)
       ]
 

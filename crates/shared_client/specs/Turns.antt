@@ -1,13 +1,14 @@
 -- The client's turns, as a seat of the lock takes them.
 use Rattle.std.specs.Prelude.{◌≡◌, ◌≤◌, ◌⊎◌, ⊤, ℕ, List, [], ◌∷◌, Option, Some, None, false}
+use Rattle.std.specs.Prelude.{IfSome}
 use Rattle.turn_lock.specs.History.{IsPrefix}
 use Rattle.turn_lock.specs.Seats.{Known}
 use Rattle.turn_lock.specs.declared.rule.TheConstants.{LAST_TICKET}
-use Rattle.seat_turns.specs.Own.{past_of, Grows}
+use Rattle.turn_lock.specs.Own.{past_of, Grows}
 use Rattle.resp_value.specs.declared.octets.Octets.{Octets}
 use Rattle.resp_value.specs.declared.value.Value.{Value}
 use Rattle.resp_value.specs.declared.value.Proto.TheVariants.{Three}
-use Rattle.shared_cache.specs.declared.log.Wire.TheVariants.{Main}
+use Rattle.shared_cache.specs.declared.log.Wire.{Wire}
 use Rattle.shared_cache.specs.declared.log.Shape.TheVariants.{Single}
 use Rattle.shared_cache.specs.declared.log.Caching.TheVariants.{Default}
 use Rattle.shared_cache.specs.declared.log.LogEntry.{LogEntry}
@@ -18,6 +19,7 @@ use Rattle.shared_cache.specs.declared.log.ClientReply.{ClientReply}
 use Rattle.shared_cache.specs.declared.log.ClientReply.TheVariants as reply
 use Rattle.shared_cache.specs.declared.log.ClientRefusal.{ClientRefusal}
 use Rattle.shared_cache.specs.declared.log.ClientRefusal.TheVariants as refusal
+use Rattle.shared_cache.specs.Log.{HasWire}
 use Rattle.shared_cache.specs.Held.{Setup}
 use Rattle.shared_cache.specs.Steps.{client_step, MayRunOut}
 use Rattle.shared_client.specs.Setups.{setup_of}
@@ -44,6 +46,10 @@ setup_in (Some c) = setup_of c
 -- the setup of the seat's client
 abbrev pub setup_at : Place → Setup
 setup_at k = setup_in k.setup
+
+-- the seat's client has that link
+abbrev pub IsLinked : Wire → Place → Type 0
+IsLinked w k = IfSome k.setup (λ u. HasWire u.mode.shape w)
 
 -- a call that was answered so, on the log that it found, and that added this entry
 pub record Adds (call : ClientCall) (reply : ClientReply) (entry : LogEntry) (before after : Place)
@@ -127,38 +133,38 @@ abbrev pub Polls : ℕ → Option Value → Place → Place → Type 0
 Polls n (Some v) before after = Adds (call.Poll n) (reply.Answer v) (entry.Poll n) before after
 Polls n None before after = Stays (call.Poll n) reply.NotYet before after
 
--- ---- bytes for the link
+-- ---- bytes for a link
 
 -- the most bytes that are taken out at once
 abbrev pub most : ℕ
 most = 65536
 
-abbrev pub TakesOut : Option Octets → Place → Place → Type 0
-TakesOut (Some bytes) before after =
-    Adds (call.TakeOut Main most) (reply.Bytes bytes) (entry.TakeOut Main most) before after
-TakesOut None before after = Stays (call.TakeOut Main most) reply.Quiet before after
+abbrev pub TakesOut : Wire → Option Octets → Place → Place → Type 0
+TakesOut w (Some bytes) before after =
+    Adds (call.TakeOut w most) (reply.Bytes bytes) (entry.TakeOut w most) before after
+TakesOut w None before after = Stays (call.TakeOut w most) reply.Quiet before after
 
--- ---- a value from the link
+-- ---- a value from a link
 
-abbrev pub Gets : Value → Place → Place → Type 0
-Gets v before after = Adds (call.Got Main v) reply.Noted (entry.Got Main v) before after
+abbrev pub Gets : Wire → Value → Place → Place → Type 0
+Gets w v before after = Adds (call.Got w v) reply.Noted (entry.Got w v) before after
 
 -- the value ended the link
-abbrev pub EndsBy : Value → ClientRefusal → Place → Place → Type 0
-EndsBy v r before after =
-    Adds (call.Got Main v) (reply.Refused r) (entry.Bad Main v) before after
+abbrev pub EndsBy : Wire → Value → ClientRefusal → Place → Place → Type 0
+EndsBy w v r before after = Adds (call.Got w v) (reply.Refused r) (entry.Bad w v) before after
 
 -- a value that was not taken; one that ends the link stands as such in the log
-abbrev pub GetsNot : Value → ClientRefusal → Place → Place → Type 0
-GetsNot v (refusal.Unexpected w) before after = EndsBy v (refusal.Unexpected w) before after
-GetsNot v (refusal.BadPush w) before after = EndsBy v (refusal.BadPush w) before after
-GetsNot v (refusal.SetupRefused w) before after = EndsBy v (refusal.SetupRefused w) before after
-GetsNot v r before after = Refuses (call.Got Main v) r before after
+abbrev pub GetsNot : Wire → Value → ClientRefusal → Place → Place → Type 0
+GetsNot w v (refusal.Unexpected u) before after = EndsBy w v (refusal.Unexpected u) before after
+GetsNot w v (refusal.BadPush u) before after = EndsBy w v (refusal.BadPush u) before after
+GetsNot w v (refusal.SetupRefused u) before after =
+    EndsBy w v (refusal.SetupRefused u) before after
+GetsNot w v r before after = Refuses (call.Got w v) r before after
 
--- ---- the end of the link
+-- ---- the end of a link
 
 -- an End, which may find that the link has ended
-abbrev pub Ends : Place → Place → Type 0
-Ends before after =
-    Adds (call.End Main) reply.Noted (entry.End Main) before after
-    ⊎ Stays (call.End Main) reply.Noted before after
+abbrev pub Ends : Wire → Place → Place → Type 0
+Ends w before after =
+    Adds (call.End w) reply.Noted (entry.End w) before after
+    ⊎ Stays (call.End w) reply.Noted before after

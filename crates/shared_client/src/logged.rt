@@ -1,8 +1,8 @@
 //! The client's state, as it is kept under the turn lock.
 ghost use Rattle.std.specs.Prelude.{◌≡◌, ◌<◌, ◌≤◌, [], IfOk};
-ghost use Rattle.shared_cache.specs.ClientFields.{IsOneLink};
+ghost use Rattle.shared_cache.specs.ClientFields.{IsClientMode};
 ghost use Rattle.shared_client.specs.Setups.{setup_of, TurnStep};
-ghost use Rattle.seat_turns.specs.Own.{IsWithin};
+ghost use Rattle.turn_lock.specs.Own.{IsWithin};
 ghost use Rattle.turn_lock.specs.Seats.{first_seat};
 
 use resp_value::NoMemory;
@@ -42,7 +42,7 @@ impl Model for SharedClient {
 impl SharedClient {
     /// A client whose handshake is queued.
     pub fn new(alloc: Global, setup: ClientSetup) -> Result<SharedClient, NoMemory>
-        requires mode { IsOneLink setup.mode }
+        requires mode { IsClientMode setup.mode }
         requires capacity { (0 < setup.capacity) × (setup.capacity ≤ 1000000) }
         requires log_max { 0 < setup.log_max }
         ensures { IfOk result (λ s. s ≡ record { setup = setup; past = [] }) }
@@ -95,7 +95,7 @@ pub fn open(
     alloc: Global,
     setup: ClientSetup,
 ) -> Result<(TurnLock<SharedClient>, Seat<SharedClient>), NoMemory>
-    requires mode { IsOneLink setup.mode }
+    requires mode { IsClientMode setup.mode }
     requires capacity { (0 < setup.capacity) × (setup.capacity ≤ 1000000) }
     requires log_max { 0 < setup.log_max }
     ensures seat { IfOk result (λ r. r.1 ≡ first_seat r.0 setup) }

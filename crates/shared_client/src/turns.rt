@@ -1,17 +1,16 @@
-//! The turns of callers, and those of the link.
+//! The turns of callers, and those of a link.
 ghost use Rattle.std.specs.Prelude.{◌≡◌, ◌<◌, IfOk, IfErr, OnOk, OnErr, length};
-ghost use Rattle.seat_turns.specs.Own.{IsWithin};
+ghost use Rattle.turn_lock.specs.Own.{IsWithin};
 ghost use Rattle.shared_cache.specs.declared.log.ClientCall.TheVariants as call;
 ghost use Rattle.shared_cache.specs.declared.log.ClientReply.TheVariants as reply;
 ghost use Rattle.shared_cache.specs.declared.log.LogEntry.TheVariants as entry;
-ghost use Rattle.shared_cache.specs.declared.log.Wire.TheVariants.{Main};
 ghost use Rattle.shared_client.specs.Turns.{Adds, Refuses, asked_reply, Polls, most, TakesOut};
-ghost use Rattle.shared_client.specs.Turns.{Gets, GetsNot, Ends, WornOut};
+ghost use Rattle.shared_client.specs.Turns.{IsLinked, Gets, GetsNot, Ends, WornOut};
 
 use super::logged::SharedClient;
 use command_words::Query;
 use resp_value::{Octets, Value, Words};
-use seat_turns::play;
+use turn_lock::play;
 use shared_cache::{ClientCall, ClientRefusal, ClientReply, Wire};
 use std::sync::Wait;
 use turn_lock::{Seat, TurnLock, Worn};
@@ -109,19 +108,21 @@ pub fn poll<R: Wait>(
     }
 }
 
-/// The next bytes for the link, `MOST` or fewer; none where nothing is queued.
+/// The next bytes for that link, `MOST` or fewer; none where nothing is queued.
 #[tactic(auto, using(crate::proofs::Outcomes::outcomes))]
 pub fn take_out<R: Wait>(
     rt: &R,
     lock: &TurnLock<SharedClient>,
     seat: &mut Seat<SharedClient>,
+    wire: Wire,
 ) -> Result<Option<Octets>, ClientRefusal>
     requires lock { seat.old.lock ≡ lock.now }
     requires within { IsWithin seat.old }
-    ensures ok { IfOk result (λ bytes. TakesOut bytes seat.old seat.new) }
-    ensures err { IfErr result (λ e. Refuses (call.TakeOut Main most) e seat.old seat.new) }
+    requires link { IsLinked wire seat.old }
+    ensures ok { IfOk result (λ bytes. TakesOut wire bytes seat.old seat.new) }
+    ensures err { IfErr result (λ e. Refuses (call.TakeOut wire most) e seat.old seat.new) }
 {
-    match play(rt, lock, seat, ClientCall::TakeOut(Wire::Main, MOST)) {
+    match play(rt, lock, seat, ClientCall::TakeOut(wire, MOST)) {
         Ok(ClientReply::Bytes(bytes)) => Ok(Some(bytes)),
         Ok(ClientReply::Quiet) => Ok(None),
         Ok(ClientReply::Refused(refusal)) => Err(refusal),
@@ -134,20 +135,22 @@ pub fn take_out<R: Wait>(
     }
 }
 
-/// Processes a value that was read on the link.
+/// Processes a value that was read on that link.
 #[tactic(auto, using(crate::proofs::Outcomes::outcomes))]
 pub fn got<R: Wait>(
     rt: &R,
     lock: &TurnLock<SharedClient>,
     seat: &mut Seat<SharedClient>,
+    wire: Wire,
     value: Value,
 ) -> Result<(), ClientRefusal>
     requires lock { seat.old.lock ≡ lock.now }
     requires within { IsWithin seat.old }
-    ensures ok { OnOk result (Gets value seat.old seat.new) }
-    ensures err { IfErr result (λ e. GetsNot value e seat.old seat.new) }
+    requires link { IsLinked wire seat.old }
+    ensures ok { OnOk result (Gets wire value seat.old seat.new) }
+    ensures err { IfErr result (λ e. GetsNot wire value e seat.old seat.new) }
 {
-    match play(rt, lock, seat, ClientCall::Got(Wire::Main, value)) {
+    match play(rt, lock, seat, ClientCall::Got(wire, value)) {
         Ok(ClientReply::Noted) => Ok(()),
         Ok(ClientReply::Refused(refusal)) => Err(refusal),
         Ok(ClientReply::Hit { .. }) => unreachable!(),
@@ -160,19 +163,21 @@ pub fn got<R: Wait>(
     }
 }
 
-/// Ends the link, where it has not ended.
+/// Ends that link, where it has not ended.
 #[tactic(auto, using(crate::proofs::Outcomes::outcomes))]
 pub fn end<R: Wait>(
     rt: &R,
     lock: &TurnLock<SharedClient>,
     seat: &mut Seat<SharedClient>,
+    wire: Wire,
 ) -> Result<(), Worn>
     requires lock { seat.old.lock ≡ lock.now }
     requires within { IsWithin seat.old }
-    ensures ok { OnOk result (Ends seat.old seat.new) }
+    requires link { IsLinked wire seat.old }
+    ensures ok { OnOk result (Ends wire seat.old seat.new) }
     ensures err { OnErr result (WornOut seat.old seat.new) }
 {
-    match play(rt, lock, seat, ClientCall::End(Wire::Main)) {
+    match play(rt, lock, seat, ClientCall::End(wire)) {
         Ok(ClientReply::Noted) => Ok(()),
         Ok(ClientReply::Refused(_)) => unreachable!(),
         Ok(ClientReply::Hit { .. }) => unreachable!(),

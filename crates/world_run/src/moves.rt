@@ -73,7 +73,7 @@ impl Member {
         match turn(&mut self.state, ClientCall::Got(wire, value))? {
             ClientReply::Noted => {
                 // fewer values were got before than its log has entries
-                let entries = self.state.log().len();
+                let entries = self.state.entries() as usize;
                 let main = counted(self.got_main, entries, wire, Wire::Main);
                 let side = counted(self.got_side, entries, wire, Wire::Side);
                 self.got_main = main;

@@ -494,7 +494,7 @@ fn holds_two<R: Abort>(rt: &R, client: &ClientState) -> Result<(), Fail> {
     is_held(rt, client, 0, b"Z", 4)?;
     is_held(rt, client, 1, b"\0", 3)?;
     assert!(rt; client.held(2).is_none());
-    assert_eq!(rt; client.log().len(), 6);
+    assert_eq!(rt; client.entries(), 6);
     Ok(())
 }
 

@@ -1,5 +1,5 @@
 //! A client as a program of another language holds it, over tables of calls.
-use client_library::{ForeignClient, LibraryClient, status};
+use client_library::{ClientOptions, ForeignClient, option_status, status, tracking};
 use resp_value::NoMemory;
 use std::alloc::{AllocError, Global};
 use std::process::Abort;
@@ -109,6 +109,29 @@ fn play<R: Abort>(
     Ok(())
 }
 
+fn options_of(capacity: u64, max_age: u64) -> ClientOptions {
+    ClientOptions {
+        capacity,
+        max_age,
+        tracking: tracking::DEFAULT,
+        noloop: 0,
+        reserved: [0, 0, 0, 0],
+    }
+}
+
+fn plays_by<R: Abort>(
+    rt: &R,
+    alloc: Global,
+    options: &ClientOptions,
+    prefixes: &[u8],
+    table: &str,
+) -> Result<(), Fail> {
+    match ForeignClient::new(alloc, options, prefixes)? {
+        Ok(mut client) => play(rt, alloc, &mut client, 100, table),
+        Err(_) => Err("no client".into()),
+    }
+}
+
 fn plays_within<R: Abort>(
     rt: &R,
     alloc: Global,
@@ -116,9 +139,9 @@ fn plays_within<R: Abort>(
     piece: usize,
     table: &str,
 ) -> Result<(), Fail> {
-    match ForeignClient::new(alloc, 100, 1000, max_age)? {
-        Some(mut client) => play(rt, alloc, &mut client, piece, table),
-        None => Err("no client".into()),
+    match ForeignClient::new(alloc, &options_of(100, max_age), b"")? {
+        Ok(mut client) => play(rt, alloc, &mut client, piece, table),
+        Err(_) => Err("no client".into()),
     }
 }
 
@@ -213,21 +236,93 @@ fn a_flush_by_any_null_empties(rt: HostRuntime) -> Result<(), Fail> {
     Ok(())
 }
 
-fn is_refused(alloc: Global, capacity: u64, log_max: u64) -> Result<bool, NoMemory> {
-    let client = ForeignClient::new(alloc, capacity, log_max, 0)?;
-    Ok(client.is_none())
+// What making a client tells.
+fn made_by(alloc: Global, options: &ClientOptions, prefixes: &[u8]) -> Result<u64, NoMemory> {
+    match ForeignClient::new(alloc, options, prefixes)? {
+        Ok(_) => Ok(status::DONE),
+        Err(fault) => Ok(option_status(fault)),
+    }
 }
 
 #[test]
 fn a_limit_that_is_none_is_refused(rt: HostRuntime) -> Result<(), Fail> {
     for capacity in [0, 1000001] {
-        assert!(rt; is_refused(rt.alloc(), capacity, 1000)?);
+        let told = made_by(rt.alloc(), &options_of(capacity, 0), b"")?;
+        assert_eq!(rt; told, status::BAD_LIMIT);
     }
-    for log_max in [0, 1, 3, 999] {
-        assert!(rt; is_refused(rt.alloc(), 1, log_max)?);
-    }
-    assert!(rt; !is_refused(rt.alloc(), 1, 1000)?);
+    let told = made_by(rt.alloc(), &options_of(1, 0), b"")?;
+    assert_eq!(rt; told, status::DONE);
     Ok(())
+}
+
+// The numbers of the tracking, of NOLOOP and of what is for later, prefixes, and what is told.
+const OPTIONS: &str = "\
+0 0 0 - 0
+3 1 0 - 0
+3 0 0 a~ 0
+3 0 0 *1~$1~a~ 0
+4 0 0 - 16
+4 2 1 a~ 16
+0 2 1 a~ 17
+0 0 1 a~ 19
+0 0 0 a~ 18
+1 0 0 a~ 18
+2 0 0 a~ 18
+3 0 0 a 18
+3 0 0 ~ 18
+3 0 0 *1~$2~a~ 18";
+
+fn word_at(line: &str, place: usize) -> &str {
+    line.split(" ").nth(place).unwrap_or("")
+}
+
+fn number_at(line: &str, place: usize) -> u64 {
+    word_at(line, place).parse().unwrap_or(0)
+}
+
+#[test]
+fn an_option_that_is_none_is_told(rt: HostRuntime) -> Result<(), Fail> {
+    for line in OPTIONS.lines() {
+        let mut options = options_of(1, 0);
+        options.tracking = number_at(line, 0);
+        options.noloop = number_at(line, 1);
+        options.reserved = [0, 0, number_at(line, 2), 0];
+        let prefixes = bytes_of(rt.alloc(), word_at(line, 3))?;
+        let told = made_by(rt.alloc(), &options, prefixes.as_slice())?;
+        assert_eq!(rt; told, number_at(line, 4), "{line}");
+    }
+    Ok(())
+}
+
+// Each mode with its set-up, a fetch, and a hit; by BCAST what has no prefix is never a hit.
+const OPTIN: &str = "\
+take 22 | bytes 0 *2~$5~HELLO~$1~3~
+take 1000 | bytes 0 *4~$6~CLIENT~$8~TRACKING~$2~ON~$5~OPTIN~
+feed %0~+OK~ | done 0 -
+ask GET a~ | sent 4 -
+take 1000 | bytes 0 *3~$6~CLIENT~$7~CACHING~$3~YES~*2~$3~GET~$1~a~
+feed +OK~$1~1~ | done 0 -
+ask GET a~ | hit 4 $1~1~";
+
+const BCAST: &str = "\
+take 22 | bytes 0 *2~$5~HELLO~$1~3~
+take 1000 | bytes 0 *7~$6~CLIENT~$8~TRACKING~$2~ON~$5~BCAST~$6~PREFIX~$2~u:~$6~NOLOOP~
+feed %0~+OK~ | done 0 -
+ask GET u:1~ | sent 3 -
+ask GET o:1~ | sent 4 -
+feed $1~1~$1~2~ | done 0 -
+ask GET u:1~ | hit 3 $1~1~
+ask GET o:1~ | sent 5 -";
+
+#[test]
+fn a_client_has_the_mode_that_was_chosen(rt: HostRuntime) -> Result<(), Fail> {
+    let alloc = rt.alloc();
+    let mut options = options_of(100, 0);
+    options.tracking = tracking::OPTIN;
+    plays_by(&rt, alloc, &options, b"", OPTIN)?;
+    options.tracking = tracking::BCAST;
+    options.noloop = 1;
+    plays_by(&rt, alloc, &options, b"u:\r\n", BCAST)
 }
 
 /// Whether the line is told so by a client that is set up.
@@ -392,20 +487,4 @@ ask GET a~ | hit 3 $1~1~";
 #[test]
 fn a_bound_of_0_is_none(rt: HostRuntime) -> Result<(), Fail> {
     plays(&rt, rt.alloc(), 100, NO_BOUND)
-}
-
-fn is_full_at_a_value<R: Abort>(rt: &R, client: &mut LibraryClient) -> Result<(), Fail> {
-    client.feed(b"%0\r\n+OK\r\n")?;
-    assert!(rt; !client.has_ended());
-    assert_eq!(rt; client.log().len(), 2);
-    client.feed(b">1\r\n$1\r\na\r\n")?;
-    assert!(rt; client.has_ended());
-    assert_eq!(rt; client.log().len(), 3);
-    Ok(())
-}
-
-#[test]
-fn a_full_log_ends_the_link_at_a_value(rt: HostRuntime) -> Result<(), Fail> {
-    let mut client = LibraryClient::new(rt.alloc(), 1, 2)?;
-    is_full_at_a_value(&rt, &mut client)
 }

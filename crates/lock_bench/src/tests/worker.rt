@@ -130,6 +130,7 @@ GET_a;*1;$007 = 100 = 100 = BadRequest(BadByte { offset: 13 }) 1 in 1 = $-1;
 SET_a_v;GET_a;*1;$007 = 100 = 100 = BadRequest(BadByte { offset: 22 }) 2 in 1 = +OK;$1;v;
 GET_a;GET_a; = 100 = 3 = LinkFault 2 in 2 = $-1
 GET_a; = 1 = 100 = PeerEnd 1 in 1 = $-1;
+*1;$4;PING; = 1 = 100 = PeerEnd 1 in 1 = +PONG;
 SET_a_v;GET_a;,GET_a; = 2 = 100 = PeerEnd 3 in 2 = +OK;$1;v;$1;v;
 QUIT; = 100 = 100 = Quit 1 in 1 = +OK;
 PING;QUIT;PING; = 100 = 100 = Quit 2 in 1 = +PONG;+OK;
@@ -179,7 +180,8 @@ const DROPS: &str = "\
 SET_a_v;GET_a; = 12 = PeerEnd 2 in 1 = +OK;$1;v;
 SET_a_v;GET_a; = 11 = Dropped 2 in 0 = 
 SET_a_v;,GET_a; = 7 = PeerEnd 2 in 2 = +OK;$1;v;
-SET_a_v;,GET_a;GET_a;,GET_a; = 6 = Dropped 2 in 1 = +OK;";
+SET_a_v;,GET_a;GET_a;,GET_a; = 6 = Dropped 2 in 1 = +OK;
+*1;$4;PING; = 1 = Dropped 1 in 0 = ";
 
 fn drops_so<R: Wait>(rt: &R, alloc: Global, row: &str) -> Result<bool, Fail> {
     let mut parts = row.split(" = ");
@@ -205,6 +207,54 @@ fn a_connection_for_which_too_much_waits_is_dropped(rt: HostRuntime) -> Result<(
     Ok(())
 }
 
+/// A value of so many bytes, as a word of a request or a reply has it.
+fn long_word(alloc: Global, length: usize) -> Result<Vec<u8>, AllocError> {
+    let head = format!(in alloc; "${length}\r\n")?;
+    let mut bytes = Vec::new(alloc);
+    bytes.extend_from_slice(head.as_bytes())?;
+    for _ in 0..length {
+        bytes.push(b'v')?;
+    }
+    bytes.extend_from_slice(b"\r\n")?;
+    Ok(bytes)
+}
+
+/// A link that sets a key to a long value, and then gets it ten times in one piece.
+fn ten_gets(alloc: Global, word: &[u8]) -> Result<CountedLink, AllocError> {
+    let mut set = bytes_of(alloc, "*3;$3;SET;$1;a;")?;
+    set.extend_from_slice(word)?;
+    let gets = "GET_a;GET_a;GET_a;GET_a;GET_a;GET_a;GET_a;GET_a;GET_a;GET_a;";
+    let mut steps = Vec::new(alloc);
+    steps.push(LinkStep::Bytes(set))?;
+    steps.push(LinkStep::Bytes(bytes_of(alloc, gets)?))?;
+    let Ok(link) = MemoryLink::new(alloc, 1_000_000, steps) else {
+        return Err(AllocError);
+    };
+    Ok(CountedLink { link, writes: 0 })
+}
+
+/// Of ten replies that come to much more than may wait, each is written before the next is made, by
+/// two Takes.
+#[test]
+fn replies_that_come_at_once_do_not_add_up_against_the_limit(rt: HostRuntime) -> Result<(), Fail> {
+    let word = long_word(rt.alloc(), 70_000)?;
+    let mut link = ten_gets(rt.alloc(), word.as_slice())?;
+    let limits = Limits {
+        table_max: 100,
+        out_max: 150_000,
+        history_max: 100,
+    };
+    let clock = FixedClock { ms: 7 };
+    let came = said_within(&rt, rt.alloc(), limits, &mut link, &clock, &OpenGate)?;
+    assert_eq!(rt; came.as_str(), "PeerEnd 11 in 21");
+    let mut written = bytes_of(rt.alloc(), "+OK;")?;
+    for _ in 0..10 {
+        written.extend_from_slice(word.as_slice())?;
+    }
+    assert!(rt; link.link.bytes() == written.as_slice());
+    Ok(())
+}
+
 /// The steps of a link that hears PING, and QUIT behind it, as a client sends them; how many bytes
 /// a write to it takes at most, and the number of the write that fails, 0 for none; the end, the
 /// requests and the writes; and what was written.
@@ -219,6 +269,7 @@ apart = 99 0 = PeerEnd 1 in 1 = +PONG;
 *1;$4;PING; = 1 3 = LinkFault 1 in 3 = +P
 *1;$007 = 99 0 = BadRequest(BadByte { offset: 6 }) 0 in 0 = 
 *1;$4;PING;*1;$4;QUIT;*1;$4;PING; = 99 0 = Quit 2 in 1 = +PONG;+OK;
+*1;$8;SHUTDOWN; = 99 0 = Dropped 1 in 0 = 
 *1;$4;PING;*1;$4;QUIT; = 5 3 = LinkFault 2 in 3 = +PONG;+OK";
 
 fn cut_link(alloc: Global, steps: &str, writes: &str) -> Result<CountedLink, AllocError> {

@@ -49,24 +49,26 @@ fn steps_of(alloc: Global, text: &str) -> Result<Vec<LinkStep>, AllocError> {
 const GREETING: &str = "%7;$6;server;$5;redis;$7;version;$5;7.0.0;$5;proto;:3;$2;id;:1;$4;mode;\
     $10;standalone;$4;role;$6;master;$7;modules;*0;+OK;";
 
-/// A net where the host `cache:a` gives a link at port 7 with these steps; where they are `none`
-/// the dial fails.
-fn net_with(alloc: Global, steps: &str) -> Result<ListedNet, AllocError> {
-    let link = match steps {
-        "none" => None,
-        _ => match MemoryLink::new(alloc, 1000, steps_of(alloc, steps)?) {
-            Ok(link) => Some(link),
-            Err(_) => return Err(AllocError),
-        },
-    };
-    let mut host = String::new(alloc);
-    host.push_str("cache:a")?;
+/// A net where the host `cache:a` gives a link at port 7 with these steps, and another behind each
+/// ` | `, in the order of dialling; where they are `none` the dial fails.
+fn net_with(alloc: Global, links: &str) -> Result<ListedNet, AllocError> {
     let mut dials = Vec::new(alloc);
-    dials.push(Dialled {
-        host,
-        port: 7,
-        link,
-    })?;
+    for steps in links.split(" | ") {
+        let link = match steps {
+            "none" => None,
+            _ => match MemoryLink::new(alloc, 1000, steps_of(alloc, steps)?) {
+                Ok(link) => Some(link),
+                Err(_) => return Err(AllocError),
+            },
+        };
+        let mut host = String::new(alloc);
+        host.push_str("cache:a")?;
+        dials.push(Dialled {
+            host,
+            port: 7,
+            link,
+        })?;
+    }
     Ok(ListedNet::new(Vec::new(alloc), dials))
 }
 
@@ -81,16 +83,15 @@ fn source_of(alloc: Global, script: &str) -> Result<MemorySource, AllocError> {
     Ok(MemorySource::new(bytes, Vec::new(alloc)))
 }
 
-/// What a run came to: its status, what it printed, and what it wrote to the link behind the
-/// handshake: `none` where no session was played, and `nothing` where that is no byte.
+/// What a run came to: its status, what it printed, and what it wrote to each of its links:
+/// `none` where there is no such link.
 #[derive(Drop)]
 struct Came {
     status: u8,
     printed: String,
-    sent: String,
+    main: String,
+    side: String,
 }
-
-const HANDSHAKE: usize = 60;
 
 /// A text in which `;` stands for the end of a line.
 fn told(alloc: Global, bytes: &[u8]) -> Result<String, AllocError> {
@@ -105,13 +106,16 @@ fn told(alloc: Global, bytes: &[u8]) -> Result<String, AllocError> {
     Ok(text)
 }
 
-/// What a run wrote to its link behind the handshake.
-fn sent_of(alloc: Global, outcome: &Outcome<ListedNet>) -> Result<String, AllocError> {
-    let sent = match &outcome.session {
-        Some(session) => session.link.bytes().get(HANDSHAKE..).unwrap_or(b""),
+/// What a run wrote to its links.
+fn sent_of(alloc: Global, outcome: &Outcome<ListedNet>) -> Result<(String, String), AllocError> {
+    let Some(session) = &outcome.session else {
+        return Ok((told(alloc, b"none")?, told(alloc, b"none")?));
+    };
+    let side = match &session.side {
+        Some(side) => side.link.bytes(),
         None => b"none",
     };
-    told(alloc, if sent.is_empty() { b"nothing" } else { sent })
+    Ok((told(alloc, session.main.link.bytes())?, told(alloc, side)?))
 }
 
 /// The number of the status of a run and what it sent, once the rest is let go of.
@@ -122,7 +126,7 @@ fn reached_by<R: Threads + Wait + Terminal + Sync>(
     source: &mut MemorySource,
     sink: &mut MemorySink,
     net: &mut ListedNet,
-) -> (u8, Result<String, AllocError>) {
+) -> (u8, Result<(String, String), AllocError>) {
     let clock = FixedClock { ms: 0 };
     let outcome = run(rt, alloc, words, source, sink, net, &clock);
     let sent = sent_of(alloc, &outcome);
@@ -141,11 +145,27 @@ fn play<R: Threads + Wait + Terminal + Sync>(
     let mut source = source_of(alloc, script)?;
     let mut sink = MemorySink::new(alloc, 1000, Vec::new(alloc))?;
     let (status, sent) = reached_by(rt, alloc, words.as_slice(), &mut source, &mut sink, net);
+    let (main, side) = sent?;
     Ok(Came {
         status,
         printed: told(alloc, sink.bytes())?,
-        sent: sent?,
+        main,
+        side,
     })
+}
+
+/// HELLO, and CLIENT TRACKING up to ON, as they are told.
+const HANDSHAKE: usize = 48;
+
+/// What was sent on a link behind the handshake: `nothing` where that is no byte.
+fn behind(sent: &str) -> &str {
+    match sent {
+        "none" => sent,
+        _ => match sent.get(HANDSHAKE..).unwrap_or("") {
+            "" => "nothing",
+            words => words,
+        },
+    }
 }
 
 /// Options, a script, the steps of its link, the status, what is printed, and what is sent behind
@@ -203,7 +223,6 @@ const ROWS: &str = "\
 --connect cache:a:7 --resp 2 = 1 do SET a 1 = 60,%0;+OK;,87,+OK;,88 = 2 = usage; = none
 --connect cache:a:7 --prefix a = 1 do SET a 1 = 60,%0;+OK;,87,+OK;,88 = 2 = usage; = none
 --connect cache:a:7 --mode bcast --prefix= = 1 do SET a 1 = 71,%0;+OK; = 2 = usage; = none
---connect cache:a:7 --redirect = 1 do SET a 1 = 60,%0;+OK;,87,+OK;,88 = 2 = usage; = none
 --capacity 5 = 1 do SET a 1 = 60,%0;+OK;,87,+OK;,88 = 2 = usage; = none";
 
 #[test]
@@ -220,11 +239,73 @@ fn a_script_is_played_once_over_the_link_that_its_words_name(rt: HostRuntime) ->
         assert!(rt; came.status == status, "{row}: {}", came.status);
         assert!(rt; came.printed.as_str() == printed, "{row}: {}", came.printed);
         let sent = parts.next().unwrap_or("");
-        assert!(rt; came.sent.as_str() == sent, "{row}: {}", came.sent);
+        assert!(rt; behind(came.main.as_str()) == sent, "{row}: {}", came.main);
+        assert!(rt; came.side.as_str() == "none", "{row}");
         // What is not played has dialled nothing.
         let is_there = net.dial("cache:a", 7).is_ok();
         assert!(rt; is_there == (status == 2 || status == 3), "{row}");
     }
+    Ok(())
+}
+
+/// Options, a script, the steps of Side and of Main, the status, what is printed, and all that is
+/// sent on Main and on Side.
+const PAIRS: &str = "\
+--redirect --connect cache:a:7 = 1 ask GET foo,1 ask GET foo \
+= 46,%0;:7;,47 | 22,%0;,81,+OK;,103,_;,104 = 0 = 1 answer 3 _\\r\\n;2 hit 3 _\\r\\n; \
+= *2;$5;HELLO;$1;3;*5;$6;CLIENT;$8;TRACKING;$2;ON;$8;REDIRECT;$1;7;*2;$3;GET;$3;foo; \
+= *2;$5;HELLO;$1;3;*2;$6;CLIENT;$2;ID;
+--connect cache:a:7 --resp 2 --redirect = 1 ask GET foo,1 ask GET foo \
+= 70,:7;*3;$9;subscribe;$20;__redis__:invalidate;:1;,71 | 59,+OK;,81,$-1;,82 = 0 \
+= 1 answer 2 _\\r\\n;2 hit 2 _\\r\\n; \
+= *5;$6;CLIENT;$8;TRACKING;$2;ON;$8;REDIRECT;$1;7;*2;$3;GET;$3;foo; \
+= *2;$6;CLIENT;$2;ID;*2;$9;SUBSCRIBE;$20;__redis__:invalidate;
+--connect cache:a:7 --redirect --resp=3 --mode bcast --prefix f --noloop = 1 ask GET bar \
+= 46,%0;:7;,47 | 22,%0;,123,+OK;,145,_;,146 = 0 = 1 answer 3 _\\r\\n; \
+= *2;$5;HELLO;$1;3;*9;$6;CLIENT;$8;TRACKING;$2;ON;$8;REDIRECT;$1;7;$5;BCAST;$6;PREFIX;$1;f;\
+$6;NOLOOP;*2;$3;GET;$3;bar; = *2;$5;HELLO;$1;3;*2;$6;CLIENT;$2;ID;
+--connect cache:a:7 --redirect = 1 ask GET foo,2 do PING = 46,%0; | 22,%0;,30 = 8 \
+= 1 down;2 down;link-ended side 1; = *2;$5;HELLO;$1;3; = *2;$5;HELLO;$1;3;*2;$6;CLIENT;$2;ID;
+--connect cache:a:7 --redirect = 1 ask GET foo = 46,%0;:7;,47 | 22,%0;,81,-ERR; = 8 \
+= 1 down;link-ended main 4; = *2;$5;HELLO;$1;3;*5;$6;CLIENT;$8;TRACKING;$2;ON;$8;REDIRECT;$1;7; \
+= *2;$5;HELLO;$1;3;*2;$6;CLIENT;$2;ID;
+--connect cache:a:7 --redirect = 1 ask GET foo = 46,%0;:7;,47 | none = 6 = net-fault; = none = none
+--connect cache:a:7 --redirect = 1 ask GET foo = none | none = 6 = net-fault; = none = none";
+
+#[test]
+fn with_redirect_a_script_is_played_over_two_links(rt: HostRuntime) -> Result<(), Fail> {
+    let alloc = rt.alloc();
+    for row in PAIRS.lines() {
+        let mut parts = row.split(" = ");
+        let options = parts.next().unwrap_or("");
+        let script = parts.next().unwrap_or("");
+        let mut net = net_with(alloc, parts.next().unwrap_or(""))?;
+        let status = parts.next().unwrap_or("").parse::<u8>().unwrap_or(1);
+        let printed = parts.next().unwrap_or("");
+        let came = play(&rt, alloc, options, script, &mut net)?;
+        assert!(rt; came.status == status, "{row}: {}", came.status);
+        assert!(rt; came.printed.as_str() == printed, "{row}: {}", came.printed);
+        let main = parts.next().unwrap_or("");
+        assert!(rt; came.main.as_str() == main, "{row}: {}", came.main);
+        let side = parts.next().unwrap_or("");
+        assert!(rt; came.side.as_str() == side, "{row}: {}", came.side);
+    }
+    Ok(())
+}
+
+#[test]
+fn a_net_that_gives_no_second_link_is_not_asked_for_a_first(rt: HostRuntime) -> Result<(), Fail> {
+    let alloc = rt.alloc();
+    let mut net = net_with(alloc, "none | 60")?;
+    let came = play(
+        &rt,
+        alloc,
+        "--connect cache:a:7 --redirect",
+        "1 do PING",
+        &mut net,
+    )?;
+    assert_eq!(rt; came.status, 6);
+    assert!(rt; net.dial("cache:a", 7).is_ok());
     Ok(())
 }
 
@@ -234,7 +315,7 @@ fn a_script_of_no_lines_prints_nothing(rt: HostRuntime) -> Result<(), Fail> {
     let mut net = net_with(alloc, "60,%0;+OK;,61")?;
     let came = play(&rt, alloc, "--connect cache:a:7", "", &mut net)?;
     assert_eq!(rt; came.status, 0);
-    assert!(rt; came.sent.as_str() != "none");
+    assert!(rt; came.main.as_str() != "none");
     assert!(rt; came.printed.is_empty());
     Ok(())
 }

@@ -1,13 +1,13 @@
 //! A client's pump over a link in memory, and what a caller is told behind it.
 ghost use Rattle.std.specs.Prelude.{◌≡◌};
-ghost use Rattle.seat_turns.specs.Own.{IsWithin};
+ghost use Rattle.turn_lock.specs.Own.{IsWithin};
 
 use super::{bytes_of, setup_of};
 use client_link::*;
 use command_words::Query;
 use edge_links::{LinkStep, MemoryLink};
 use resp_value::{Octets, Words};
-use shared_cache::ClientRefusal;
+use shared_cache::{ClientRefusal, Wire};
 use shared_client::{SharedClient, open};
 use std::alloc::{AllocError, Global};
 use std::sync::Wait;
@@ -51,7 +51,7 @@ fn pump_of<R: Wait>(
     alloc: Global,
     lock: &TurnLock<SharedClient>,
     seat: &mut Seat<SharedClient>,
-    bell: &Bell,
+    waiters: &Waiters,
     link: &mut MemoryLink,
 ) -> PumpEnd
     requires lock { seat.old.lock ≡ lock.now }
@@ -59,7 +59,7 @@ fn pump_of<R: Wait>(
     ensures lock { seat.new.lock ≡ lock.now }
     ensures within { IsWithin seat.new }
 {
-    pump(rt, alloc, lock, seat, bell, link)
+    pump(rt, alloc, lock, seat, waiters, Wire::Main, link)
 }
 
 /// What a caller is refused by.
@@ -67,13 +67,13 @@ fn refusal_of<R: Wait>(
     rt: &R,
     lock: &TurnLock<SharedClient>,
     seat: &mut Seat<SharedClient>,
-    bell: &Bell,
+    waiters: &Waiters,
     query: &Query,
 ) -> Option<ClientRefusal>
     requires lock { seat.old.lock ≡ lock.now }
     requires within { IsWithin seat.old }
 {
-    match ask_through(rt, lock, seat, bell, query) {
+    match ask_through(rt, lock, seat, waiters, query) {
         Ok(_) => None,
         Err(refusal) => Some(refusal),
     }
@@ -90,9 +90,9 @@ fn said<R: Wait>(
     let Ok((lock, mut seat)) = open(alloc, setup_of(log_max)) else {
         return Err(AllocError);
     };
-    let bell = Bell::new();
-    let ended = pump_of(rt, alloc, &lock, &mut seat, &bell, link);
-    let refusal = refusal_of(rt, &lock, &mut seat, &bell, &query);
+    let waiters = Waiters::new(None, None);
+    let ended = pump_of(rt, alloc, &lock, &mut seat, &waiters, link);
+    let refusal = refusal_of(rt, &lock, &mut seat, &waiters, &query);
     format!(in alloc; "{ended:?} {refusal:?}")
 }
 

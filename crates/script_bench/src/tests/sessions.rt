@@ -3,9 +3,9 @@ ghost use Rattle.std.specs.Prelude.{◌≡◌, IfOk, length};
 ghost use Rattle.std.specs.List.{All};
 ghost use Rattle.script_text.specs.Scripts.{IsValidLine, most_threads};
 
-use super::{bytes_of, setup_in};
+use super::{bytes_of, pair_of, setup_in};
 use edge_links::{LinkStep, MemoryLink};
-use resp_value::{Octets, Words};
+use resp_value::{Octets, Proto, Words};
 use script_run::*;
 use script_text::{ScriptLine, read_script_line};
 use shared_cache::Caching;
@@ -67,10 +67,10 @@ fn caching_of(alloc: Global, text: &str) -> Result<Caching, Fail> {
 const ROWS: &str = "\
 1 ask GET foo,1 ask GET foo = 60,%0;+OK;,82,_;,83 = 100 \
 = 1 answer 3 _\\r\\n;2 hit 3 _\\r\\n; = Done 5
-1 ask GET foo = 60,$5;hello; = 100 = 1 down; = LinkEnded(4) 4
-1 ask GET foo = 60,%0;+OK;,82 = 100 = 1 down; = LinkEnded(1) 1
-1 ask GET foo = 60,%0;+OK;,82,fail = 100 = 1 down; = LinkEnded(2) 2
-1 ask GET foo = 60,%0;+OK;,82,*x = 100 = 1 down; = LinkEnded(3) 3
+1 ask GET foo = 60,$5;hello; = 100 = 1 down; = LinkEnded(Main, 4) 4
+1 ask GET foo = 60,%0;+OK;,82 = 100 = 1 down; = LinkEnded(Main, 1) 1
+1 ask GET foo = 60,%0;+OK;,82,fail = 100 = 1 down; = LinkEnded(Main, 2) 2
+1 ask GET foo = 60,%0;+OK;,82,*x = 100 = 1 down; = LinkEnded(Main, 3) 3
 1 do GET a,2 do GET a = 60,%0;+OK;,both,$1;1;$1;1;,101 = 100 \
 = 1 answer $1\\r\\n1\\r\\n;2 answer $1\\r\\n1\\r\\n; = Done 5
 1 ask GET foo = 60,%0;+OK;,82,_; = 1 = 1 down; = HistoryFull 7";
@@ -85,7 +85,23 @@ optin = 1 ask GET foo,1 ask GET foo = 71,%0;+OK;,131,+OK;_;,132 = 100 \
 = 1 answer 4 _\\r\\n;2 hit 4 _\\r\\n; = Done 5
 optout = 1 do GET foo,1 ask GET foo,1 ask GET foo = 72,%0;+OK;,131,+OK;_;,153,_;,154 = 100 \
 = 1 answer _\\r\\n;2 answer 5 _\\r\\n;3 hit 5 _\\r\\n; = Done 5
-optin = 1 ask GET foo,2 do PING = 71,%0;-ERR no;,72 = 100 = 1 down;2 down; = LinkEnded(4) 4";
+optin = 1 ask GET foo,2 do PING = 71,%0;-ERR no;,72 = 100 = 1 down;2 down; = LinkEnded(Main, 4) 4";
+
+/// Scripts over two links: the protocol, the script, the steps of Side and of Main, what is
+/// printed, how the session ends, and the numbers of the ends of Main's pump and of Side's.
+const PAIRS: &str = "\
+3 = 1 ask GET foo,1 ask GET foo = 46,%0;:7;,47 = 22,%0;,81,+OK;,103,_;,104 \
+= 1 answer 3 _\\r\\n;2 hit 3 _\\r\\n; = Done 5 5
+2 = 1 ask GET foo,1 ask GET foo \
+= 70,:7;*3;$9;subscribe;$20;__redis__:invalidate;:1;,71 = 59,+OK;,81,$-1;,82 \
+= 1 answer 2 _\\r\\n;2 hit 2 _\\r\\n; = Done 5 5
+3 = 1 ask GET foo,2 do PING = 46,%0; = 22,%0;,30 = 1 down;2 down; = LinkEnded(Side, 1) 5 1
+3 = 1 ask GET foo = 46,%0;,fail = 22,%0;,30 = 1 down; = LinkEnded(Side, 2) 5 2
+3 = 1 ask GET foo = 46,*x = 22,%0;,30 = 1 down; = LinkEnded(Side, 3) 5 3
+3 = 1 ask GET foo = 46,%0;-ERR; = 22,%0;,30 = 1 down; = LinkEnded(Side, 4) 5 4
+2 = 1 ask GET foo = 70,:0; = 60 = 1 down; = LinkEnded(Side, 4) 5 4
+3 = 1 ask GET foo = 46,%0;:7;,47 = 22,%0;,81,-ERR; = 1 down; = LinkEnded(Main, 4) 4 5
+3 = 1 ask GET foo = 46,%0;:7;,47 = 22,%0;,81,+OK;,103 = 1 down; = LinkEnded(Main, 1) 1 5";
 
 /// A text in which each LF is a `;`.
 fn shown(alloc: Global, text: &[u8]) -> Result<String, AllocError> {
@@ -106,14 +122,23 @@ fn told(alloc: Global, played: &mut Played<MemoryLink>) -> Result<(String, Strin
     requires answers { length played.old.answers.items ≡ most_threads }
 {
     let mut text = Vec::new(alloc);
+    let main = played.main.end;
+    let side = played.side_end();
     let end = report(
         played.lines.as_slice(),
         &mut played.answers,
-        played.pump,
+        main,
+        side,
         &mut text,
     )?;
-    let number = played.pump.number();
-    let end = format!(in alloc; "{end:?} {number}")?;
+    let number = main.number();
+    let end = match side {
+        None => format!(in alloc; "{end:?} {number}")?,
+        Some(side) => {
+            let other = side.number();
+            format!(in alloc; "{end:?} {number} {other}")?
+        }
+    };
     Ok((shown(alloc, text.as_slice())?, end))
 }
 
@@ -129,8 +154,44 @@ fn said<R: std::thread::Threads + std::sync::Wait + Sync>(
     let lines = lines_of(alloc, script)?;
     let link = MemoryLink::new(alloc, 1000, steps_of(alloc, steps)?)?;
     let setup = setup_in(caching, false, log_max);
-    let mut played = play_script(rt, alloc, setup, lines, link)?;
+    let mut played = play_script(rt, alloc, setup, lines, link, None)?;
     told(alloc, &mut played)
+}
+
+/// The same over two links.
+fn said_by_pair<R: std::thread::Threads + std::sync::Wait + Sync>(
+    rt: &R,
+    alloc: Global,
+    proto: Proto,
+    script: &str,
+    side: &str,
+    main: &str,
+) -> Result<(String, String), Fail> {
+    let lines = lines_of(alloc, script)?;
+    let side = MemoryLink::new(alloc, 1000, steps_of(alloc, side)?)?;
+    let main = MemoryLink::new(alloc, 1000, steps_of(alloc, main)?)?;
+    let mut played = play_script(rt, alloc, pair_of(proto), lines, main, Some(side))?;
+    told(alloc, &mut played)
+}
+
+#[test]
+fn a_session_over_two_links_tells_which_of_them_ended(rt: HostRuntime) -> Result<(), Fail> {
+    for row in PAIRS.lines() {
+        let mut parts = row.split(" = ");
+        let proto = match parts.next() {
+            Some("2") => Proto::Two,
+            _ => Proto::Three,
+        };
+        let script = parts.next().unwrap_or("");
+        let side = parts.next().unwrap_or("");
+        let main = parts.next().unwrap_or("");
+        let want = parts.next().unwrap_or("");
+        let end = parts.next().unwrap_or("");
+        let came = said_by_pair(&rt, rt.alloc(), proto, script, side, main)?;
+        assert!(rt; came.0.as_str() == want, "{row}: {}", came.0);
+        assert!(rt; came.1.as_str() == end, "{row}: {}", came.1);
+    }
+    Ok(())
 }
 
 /// Whether the script of a row comes to what stands there.

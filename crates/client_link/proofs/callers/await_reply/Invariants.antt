@@ -1,5 +1,5 @@
 use Rattle.std.proofs.Common.{[]}
-use Rattle.seat_turns.specs.Own.{Grows}
+use Rattle.turn_lock.specs.Own.{Grows}
 use Rattle.client_link.proofs.callers.await_reply.Given as goal
 
 abbrev pub invariant-loop : goal.invariant-loop

@@ -1,4 +1,4 @@
-use Rattle.seat_turns.proofs.Growing.{grows_none}
+use Rattle.turn_lock.proofs.Growing.{grows_none}
 use Rattle.edge_links.proofs.Bytes.{consumes_none, appends_none}
 use Rattle.resp_stream.proofs.Onward.{values_begun, no_values}
 use Rattle.std.proofs.Common.{ap, ◌∙◌, arith}
@@ -11,22 +11,26 @@ loop-init g c = grind (arith, grows_none, consumes_none, values_begun, no_values
 
 pub returns-in-Err-clause-runs : goal.returns-in-Err-clause-runs
 returns-in-Err-clause-runs g c =
-    delivery_stops c.loop.reader (g.L.Link.left c.args.link.now) (g.L.Link.left c.loop.link)
+    delivery_stops c.args.wire c.loop.reader (g.L.Link.left c.args.link.now)
+    (g.L.Link.left c.loop.link)
     (g.L.Link.contents c.args.link.now) (g.L.Link.contents c.loop.link) c.args.seat.now c.loop.seat
     c.loop.invariant.2 (g.L.Link.left c.deliver.new.link) (g.L.Link.contents c.deliver.new.link)
     c.in-Err.ensures.unread c.deliver.new.seat c.in-Err.ended c.in-Err.ensures.err
 
 pub returns-in-Err-hear-clause-runs : goal.returns-in-Err-hear-clause-runs
 returns-in-Err-hear-clause-runs g c =
-    let d = delivered c.loop.reader (g.L.Link.left c.args.link.now) (g.L.Link.left c.loop.link)
+    let d = delivered c.args.wire c.loop.reader (g.L.Link.left c.args.link.now)
+    (g.L.Link.left c.loop.link)
     (g.L.Link.contents c.args.link.now) (g.L.Link.contents c.loop.link) c.args.seat.now c.loop.seat
     c.loop.invariant.2 (g.L.Link.left c.deliver.new.link) (g.L.Link.contents c.deliver.new.link)
     c.in-Ok.ensures.unread c.deliver.new.seat c.in-Ok.ensures.ok in
-    let done = drained c.loop.reader (g.L.Link.left c.args.link.now) (g.L.Link.left c.loop.link)
+    let done = drained c.args.wire c.loop.reader (g.L.Link.left c.args.link.now)
+    (g.L.Link.left c.loop.link)
     (g.L.Link.contents c.args.link.now) (g.L.Link.contents c.loop.link) c.args.seat.now c.loop.seat
     c.loop.invariant.2 (g.L.Link.left c.deliver.new.link) (g.L.Link.contents c.deliver.new.link)
     c.in-Ok.ensures.unread c.deliver.new.seat c.in-Ok.ensures.ok in
-    hears_stops c.loop.reader (g.L.Link.left c.args.link.now) (g.L.Link.left c.deliver.new.link)
+    hears_stops c.args.wire c.loop.reader (g.L.Link.left c.args.link.now)
+    (g.L.Link.left c.deliver.new.link)
     (g.L.Link.contents c.args.link.now) (g.L.Link.contents c.deliver.new.link) c.args.seat.now
     c.deliver.new.seat d (g.L.Link.left c.hear.new.link) (g.L.Link.contents c.hear.new.link)
     c.in-Err-hear.ensures.written done c.in-Err-hear.ended c.hear.new.seat
@@ -34,7 +38,8 @@ returns-in-Err-hear-clause-runs g c =
 
 pub loop-preserved : goal.loop-preserved
 loop-preserved g c =
-    let d = delivered c.loop.reader (g.L.Link.left c.args.link.now) (g.L.Link.left c.loop.link)
+    let d = delivered c.args.wire c.loop.reader (g.L.Link.left c.args.link.now)
+    (g.L.Link.left c.loop.link)
     (g.L.Link.contents c.args.link.now) (g.L.Link.contents c.loop.link) c.args.seat.now c.loop.seat
     c.loop.invariant.2 (g.L.Link.left c.deliver.new.link) (g.L.Link.contents c.deliver.new.link)
     c.in-Ok.ensures.unread c.deliver.new.seat c.in-Ok.ensures.ok in
@@ -42,7 +47,8 @@ loop-preserved g c =
     let heard = c.in-Ok-hear.ensures in (
       tt,
       tt,
-      hears_on c.loop.reader (g.L.Link.left c.args.link.now) (g.L.Link.left c.deliver.new.link)
+      hears_on c.args.wire c.loop.reader (g.L.Link.left c.args.link.now)
+          (g.L.Link.left c.deliver.new.link)
           (g.L.Link.contents c.args.link.now) (g.L.Link.contents c.deliver.new.link)
           c.args.seat.now c.deliver.new.seat d (g.L.Link.left c.hear.new.link)
           (g.L.Link.contents c.hear.new.link) heard.written c.hear.new.reader c.hear.new.seat

@@ -3,7 +3,7 @@ use Rattle.std.specs.List.{All}
 use Rattle.std.proofs.lemmas.Option.{same_Some}
 use Rattle.turn_lock.specs.Counts.{total}
 use Rattle.turn_lock.specs.History.{Legal, entries}
-use Rattle.seat_turns.specs.Own.{past_of, turns_of}
+use Rattle.turn_lock.specs.Own.{past_of, turns_of}
 use Rattle.shared_book.specs.Turns.{TurnStep, Place}
 use Rattle.conn_pool.specs.Crew.{Team}
 use Rattle.conn_worker.specs.Elsewhere.{closes, quits}

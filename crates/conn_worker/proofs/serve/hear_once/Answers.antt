@@ -1,19 +1,20 @@
 use Rattle.std.proofs.Common.{refl}
 use Rattle.shared_book.specs.declared.turns.Refusal.TheVariants as refusal
-use Rattle.conn_worker.specs.Visits.{Piece, Part}
-use Rattle.conn_worker.proofs.Rounding.{piece_short}
+use Rattle.conn_worker.specs.Visits.{Piece, Unread}
+use Rattle.conn_worker.proofs.Serving.{piece_short}
 use Rattle.conn_worker.proofs.Ticking.{unticked}
 use Rattle.conn_worker.proofs.serve.hear_once.Goals as goal
 
 pub returns-in-Ok-clause-ok : goal.returns-in-Ok-clause-ok
 returns-in-Ok-clause-ok g c =
     Piece _ refl _ (piece_short _ _ _ c.in-Bytes.ensures.bytes.1 c.read.auto.buf)
-    c.in-Bytes.ensures.bytes.2 c.in-Bytes.ensures.counts c.in-Ok.ensures.ok
+    c.in-Bytes.ensures.bytes.2 c.in-Bytes.ensures.counts refl c.in-Ok.ensures.ok
+    c.in-Ok.ensures.same.0 c.in-Ok.ensures.same.1
 
 pub returns-in-Err-clause-err : goal.returns-in-Err-clause-err
 returns-in-Err-clause-err g c =
-    Part _ (piece_short _ _ _ c.in-Bytes.ensures.bytes.1 c.read.auto.buf)
-    c.in-Bytes.ensures.bytes.2 c.in-Bytes.ensures.counts c.in-Err.ensures.err
+    Unread refl _ (piece_short _ _ _ c.in-Bytes.ensures.bytes.1 c.read.auto.buf)
+    c.in-Bytes.ensures.bytes.2 c.in-Bytes.ensures.counts refl c.hear.ensures.same.1
 
 pub returns-in-Err-Worn-clause-err : goal.returns-in-Err-Worn-clause-err
 returns-in-Err-Worn-clause-err g c =

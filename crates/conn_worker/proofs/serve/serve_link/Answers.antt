@@ -1,9 +1,9 @@
 use Rattle.std.proofs.Common.{ap, inr, subst}
 use Rattle.conn_worker.specs.declared.connection.Connection.{Connection}
 use Rattle.conn_worker.specs.Visits.{Works}
+use Rattle.conn_worker.proofs.Complete.{ends_show}
 use Rattle.conn_worker.proofs.Parting.{leaves_counts, leaves_dropped}
-use Rattle.conn_worker.proofs.Rounding.{serves_as}
-use Rattle.conn_worker.proofs.Serving.{works_admitted}
+use Rattle.conn_worker.proofs.Serving.{serves_as, works_admitted}
 use Rattle.conn_worker.proofs.serve.serve_link.Goals as goal
 
 pub leave-ended-requires-clause-admitted : goal.leave-ended-requires-clause-admitted
@@ -45,3 +45,8 @@ returns-clause-rounds g c =
           c.serve_admitted-cause.ensures.rounds;
       leaves = c.leave-ended.ensures;
     })
+
+pub returns-clause-complete : goal.returns-clause-complete
+returns-clause-complete g c =
+    ends_show (g.C.Clock.moment c.args.clock.now) _ _ _ _ _ _ _ _ _ (returns-clause-visit g c)
+    (returns-clause-counts g c)

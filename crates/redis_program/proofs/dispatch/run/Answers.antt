@@ -7,7 +7,9 @@ use Rattle.redis_program.specs.Storming.{StormEnds}
 use Rattle.edge_links.proofs.Bytes.{appends_none}
 use Rattle.redis_program.proofs.Finishing.{ends_as_said, finishes, writes_known}
 use Rattle.redis_program.proofs.Playing.{no_world}
-use Rattle.redis_program.proofs.Asked.{capacity_valid, limits_valid, settings_valid, steps_valid}
+use Rattle.redis_program.proofs.Completing.{script_completes, serve_completes, wordless_played}
+use Rattle.redis_program.proofs.Completing.{wordless_served}
+use Rattle.redis_program.proofs.Asked.{limits_valid, script_valid, settings_valid, steps_valid}
 use Rattle.redis_program.proofs.Scripting.{script_done, script_net, script_read, wordless_script}
 use Rattle.redis_program.proofs.Serving.{last_not_net, wordless, world_not_net}
 use Rattle.redis_program.proofs.Storming.{storm_not_read, storm_not_usage}
@@ -38,12 +40,17 @@ run_serve-requires-clause-workers g c = λ κs within.
 pub run_script-requires-clause-some : goal.run_script-requires-clause-some
 run_script-requires-clause-some g c = λ κs within.
     let is = sym c.in-Ok-Some.ensures ∙ c.in-Ok-Some.field-0-is ∙ ap Some c.in-Script.is in
-    (capacity_valid (map string_bytes c.args.words.now) c.in-Script.settings is).0
+    (script_valid (map string_bytes c.args.words.now) c.in-Script.settings is).some
 
 pub run_script-requires-clause-most : goal.run_script-requires-clause-most
 run_script-requires-clause-most g c = λ κs within.
     let is = sym c.in-Ok-Some.ensures ∙ c.in-Ok-Some.field-0-is ∙ ap Some c.in-Script.is in
-    (capacity_valid (map string_bytes c.args.words.now) c.in-Script.settings is).1
+    (script_valid (map string_bytes c.args.words.now) c.in-Script.settings is).most
+
+pub run_script-requires-clause-pushes : goal.run_script-requires-clause-pushes
+run_script-requires-clause-pushes g c = λ κs within.
+    let is = sym c.in-Ok-Some.ensures ∙ c.in-Ok-Some.field-0-is ∙ ap Some c.in-Script.is in
+    (script_valid (map string_bytes c.args.words.now) c.in-Script.settings is).pushes
 
 pub returns-in-Ok-None-clause-net : goal.returns-in-Ok-None-clause-net
 returns-in-Ok-None-clause-net g c = grind arith
@@ -168,3 +175,43 @@ returns-in-Err-clause-exact g c = λ settings e.
     (g.K.Sink.contents c.write_no_memory.new.output) _ _ (λ d. cc) (λ d. cc)
     (no_world c.law_one_history.ensures (limits_of settings) input output)
     c.write_no_memory.ensures)
+
+pub returns-in-Err-clause-served : goal.returns-in-Err-clause-served
+returns-in-Err-clause-served g c = λ settings e net sink accepting.
+    wordless_served settings g.N.Acceptor.Acceptor.counts c.write_no_memory.result _ _ _ _
+    c.write_no_memory.ensures sink
+
+pub returns-in-Err-clause-played : goal.returns-in-Err-clause-played
+returns-in-Err-clause-played g c = λ settings e source net sink.
+    wordless_played settings g.N.Link.Link.left g.N.Link.Link.contents g.N.Link.Link.counts _
+    c.write_no_memory.result _ _ _ _ c.write_no_memory.ensures sink
+
+pub returns-in-World-clause-served : goal.returns-in-World-clause-served
+returns-in-World-clause-served g c = grind arith
+
+pub returns-in-World-clause-played : goal.returns-in-World-clause-played
+returns-in-World-clause-played g c = grind arith
+
+pub returns-in-Storm-clause-served : goal.returns-in-Storm-clause-served
+returns-in-Storm-clause-served g c = grind arith
+
+pub returns-in-Storm-clause-played : goal.returns-in-Storm-clause-played
+returns-in-Storm-clause-played g c = grind arith
+
+pub returns-in-Serve-clause-served : goal.returns-in-Serve-clause-served
+returns-in-Serve-clause-served g c = λ settings e net sink accepting.
+    serve_completes settings g.N.Acceptor.Acceptor.counts g.N.Acceptor.Acceptor.left _ _ net _ _
+    _ _ (g.K.Sink.counts c.args.output.now) (g.K.Sink.counts c.run_serve.new.output)
+    (returns-in-Serve-clause-serve g c settings e) c.run_serve.ensures.write sink accepting
+
+pub returns-in-Serve-clause-played : goal.returns-in-Serve-clause-played
+returns-in-Serve-clause-played g c = grind arith
+
+pub returns-in-Script-clause-served : goal.returns-in-Script-clause-served
+returns-in-Script-clause-served g c = grind arith
+
+pub returns-in-Script-clause-played : goal.returns-in-Script-clause-played
+returns-in-Script-clause-played g c = λ settings e source net sink.
+    script_completes settings g.N.Link.Link.left g.N.Link.Link.contents g.N.Link.Link.counts _ _ _
+    _ _ _ _ _ _ (g.K.Sink.counts c.args.output.now) (g.K.Sink.counts c.run_script.new.output)
+    (returns-in-Script-clause-script g c settings e) c.run_script.ensures.write source net sink

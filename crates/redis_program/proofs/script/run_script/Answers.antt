@@ -1,7 +1,14 @@
-use Rattle.std.proofs.Common.{arith, subst}
+use Rattle.std.proofs.Common.{arith, subst, sym}
+use Rattle.shared_cache.specs.ClientFields.{IsClientMode}
+use Rattle.shared_cache.specs.Held.{Setup}
 use Rattle.script_program.specs.Written.{WritesScript}
-use Rattle.redis_program.proofs.Scripting.{wordless_script}
+use Rattle.redis_program.proofs.Scripting.{client_mode, wordless_script}
 use Rattle.redis_program.proofs.script.run_script.Goals as goal
+
+pub play_and_write-session-requires-clause-mode : goal.play_and_write-session-requires-clause-mode
+play_and_write-session-requires-clause-mode g c = λ κs within.
+    subst (λ (s : Setup). IsClientMode s.mode) (sym c.in-Ok.ensures)
+    (client_mode c.args.settings.now c.requires.pushes)
 
 pub returns-clause-script : goal.returns-clause-script
 returns-clause-script g c = record {

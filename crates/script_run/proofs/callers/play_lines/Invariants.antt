@@ -1,5 +1,5 @@
 use Rattle.std.proofs.Common.{◌≡◌, take, length}
-use Rattle.seat_turns.specs.Own.{IsWithin}
+use Rattle.turn_lock.specs.Own.{IsWithin}
 use Rattle.script_run.specs.Lines.{calls_of, PlaysThread}
 use Rattle.script_run.proofs.callers.play_lines.Given as goal
 

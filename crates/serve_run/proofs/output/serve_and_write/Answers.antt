@@ -16,6 +16,6 @@ returns-clause-writes g c = (
 
 pub returns-clause-net : goal.returns-clause-net
 returns-clause-net g c =
-    fault_failed c.serve-served.result.served _ _ c.write_run-end.result
+    fault_failed c.args.connections c.serve-served.result.served _ _ c.write_run-end.result
     (g.K.Sink.contents c.args.output.now) (g.K.Sink.contents c.write_run-end.new.output)
     (returns-clause-writes g c)

@@ -1,7 +1,7 @@
 use Rattle.std.proofs.Common.{◌≡◌}
 use Rattle.std.specs.Vec.Iter.{into_iter_items, into_iter_len}
 use Rattle.shared_book.specs.Batches.{requests_in}
-use Rattle.shared_book.proofs.Batches.{Running}
+use Rattle.shared_book.proofs.Each.{Running}
 use Rattle.shared_book.proofs.batch.run_each.Given as goal
 
 abbrev pub invariant-calls : goal.invariant-calls

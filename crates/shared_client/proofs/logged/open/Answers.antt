@@ -1,4 +1,4 @@
-use Rattle.seat_turns.proofs.Turning.{within_first}
+use Rattle.turn_lock.proofs.Turning.{within_first}
 use Rattle.shared_client.proofs.logged.open.Goals as goal
 
 pub returns-in-Ok-clause-within : goal.returns-in-Ok-clause-within

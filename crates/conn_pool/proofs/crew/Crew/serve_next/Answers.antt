@@ -1,5 +1,5 @@
 use Rattle.std.proofs.Common.{◌≡◌, ◌∷◌, ◌++◌, [], length, sym, ap, subst, ◌∙◌, arith, length-append}
-use Rattle.seat_turns.specs.Own.{past_of, turns_of}
+use Rattle.turn_lock.specs.Own.{past_of, turns_of}
 use Rattle.conn_pool.specs.Ties.{Parted, Tied}
 use Rattle.conn_pool.specs.Shown.{AreShown}
 use Rattle.conn_pool.proofs.Leaving.{look_within, shown_look, tied_look}
@@ -17,8 +17,8 @@ invariant_of-self-in-Link g c =
     let old = c.finds_stop.new.seat in
     let new = c.serve_link-report.new.seat in
     let had = c.self.inside.reports.items in
-    let more : c.push_reserved.new.self.items ≡ had ++ r ∷ [] =
-    c.push_reserved.ensures.items ∙ ap (λ z. z ++ r ∷ []) c.reserve.ensures.items in
+    let more : c.push.new.self.items ≡ had ++ r ∷ [] =
+    c.push.ensures.items ∙ ap (λ z. z ++ r ∷ []) c.reserve.ensures.items in
     let long = ap length more ∙ length-append had (r ∷ []) in
     let mine = c.in-Link.ensures.mine in (
       visit_within clock r _ _ _ _ old new v,

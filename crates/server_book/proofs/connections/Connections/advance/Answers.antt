@@ -1,7 +1,6 @@
-use Rattle.std.proofs.Common.{◌-◌, ◌∙◌, ap}
-use Rattle.std.proofs.lemmas.List.{get_or_read}
-use Rattle.server_book.specs.Connections.{ConnectionsState, has_life}
-use Rattle.server_book.specs.Places.{fresh}
+use Rattle.std.proofs.Common.{◌-◌, List, ap, drop, refl, sym, subst, vec_capacity, vec_len}
+use Rattle.server_book.specs.Connections.{ConnectionsState, HoldsPosts, connection_at}
+use Rattle.server_book.specs.Places.{Connection}
 use Rattle.server_book.proofs.Lives.{held_put}
 use Rattle.server_book.proofs.Sendings.{place_there}
 use Rattle.server_book.proofs.connections.Connections.advance.Goals as goal
@@ -9,12 +8,14 @@ use Rattle.server_book.proofs.connections.Connections.advance.Goals as goal
 pub invariant_of-self : goal.invariant_of-self
 invariant_of-self c =
     let i = c.self.inside in
-    let cs = i.items.items in
     let id = c.args.id in
-    let at = c.index_mut-connection.result.now in
-    let lt = place_there cs c.args.self.now.items id
+    let was = connection_at i.items id in
+    let now : Connection = record was { queue = drop c.args.most was.queue } in
+    let room = vec_capacity i.posts - vec_len i.posts in
+    let drop_room = vec_capacity i.drops - vec_len i.drops in
+    let lt = place_there i.items c.args.self.now.items id
     (ap (λ (s : ConnectionsState). s.items) c.self.view_is) c.requires in
-    held_put cs (id - 1) c.advance.new.self i.posts.items i.lost.items i.live _ _ lt
-    (ap has_life c.advance.ensures
-    ∙ ap has_life (get_or_read cs (id - 1) at lt c.index_mut-connection.ensures.value fresh))
-    c.self.invariant
+    subst (λ (cs : List Connection). HoldsPosts cs i.posts.items i.lost.items i.live room drop_room)
+    (sym c.advance.ensures)
+    (held_put i.items (id - 1) now i.posts.items i.lost.items i.live room drop_room lt refl
+    c.self.invariant)

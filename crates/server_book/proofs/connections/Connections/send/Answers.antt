@@ -1,8 +1,6 @@
 use Rattle.std.proofs.Common.{◌-◌, ◌∙◌, ◌∷◌, ◌++◌, [], ap, arith, slice_set, subst, sym}
 use Rattle.std.proofs.Common.{vec_capacity, vec_len}
-use Rattle.std.proofs.lemmas.List.{get_or_read}
 use Rattle.server_book.specs.Connections.{ConnectionsState, HoldsPosts, has_life}
-use Rattle.server_book.specs.Places.{fresh}
 use Rattle.server_book.specs.Sendings.{message_post}
 use Rattle.server_book.proofs.Lives.{held_more}
 use Rattle.server_book.proofs.Sendings.{place_there}
@@ -11,12 +9,11 @@ use Rattle.server_book.proofs.connections.Connections.send.Goals as goal
 pub invariant_of-self-2 : goal.invariant_of-self-2
 invariant_of-self-2 c =
     let i = c.self.inside in
-    let cs = i.items.items in
+    let cs = i.items in
     let to = c.args.to in
-    let at = c.index_mut-connection.result.now in
     let lt = place_there cs c.args.self.now.items to
     (ap (λ (s : ConnectionsState). s.items) c.self.view_is) c.requires.0 in
-    let there = get_or_read cs (to - 1) at lt c.index_mut-connection.ensures.value fresh in
+    let there = c.open_mut-connection.ensures.value in
     let post = message_post c.args.entry to c.in_ok-length.length in
     let posts = c.push_reserved.new.self in
     let room = vec_capacity posts - vec_len posts in

@@ -1,7 +1,5 @@
 use Rattle.std.proofs.Common.{◌-◌, ◌∙◌, ap}
-use Rattle.std.proofs.lemmas.List.{get_or_read}
 use Rattle.server_book.specs.Connections.{ConnectionsState, has_life}
-use Rattle.server_book.specs.Places.{fresh}
 use Rattle.server_book.proofs.Lives.{held_put}
 use Rattle.server_book.proofs.Sendings.{place_there}
 use Rattle.server_book.proofs.connections.Connections.set_mode.Goals as goal
@@ -9,12 +7,11 @@ use Rattle.server_book.proofs.connections.Connections.set_mode.Goals as goal
 pub invariant_of-self : goal.invariant_of-self
 invariant_of-self c =
     let i = c.self.inside in
-    let cs = i.items.items in
+    let cs = i.items in
     let id = c.args.id in
-    let at = c.index_mut-connection.result.now in
     let lt = place_there cs c.args.self.now.items id
     (ap (λ (s : ConnectionsState). s.items) c.self.view_is) c.requires.open.0 in
     held_put cs (id - 1) c.set_mode.new.self i.posts.items i.lost.items i.live _ _ lt
     (ap has_life c.set_mode.ensures
-    ∙ ap has_life (get_or_read cs (id - 1) at lt c.index_mut-connection.ensures.value fresh))
+    ∙ ap has_life c.open_mut-connection.ensures.value)
     c.self.invariant

@@ -2,12 +2,12 @@ use Rattle.std.proofs.Common.{◌||◌, ap, sym, ◌∙◌, arith}
 use Rattle.shared_cache.specs.declared.log.Wire.TheVariants.{Main, Side}
 use Rattle.shared_cache.specs.Log.{ends_wire, is_ended, is_ready}
 use Rattle.shared_cache.specs.ClientFields.{Client}
-use Rattle.shared_cache.proofs.NewestFirst.{pushed, room_less}
+use Rattle.shared_cache.proofs.EndsLeft.{longer, room_less}
 use Rattle.shared_cache.proofs.OtherTurns.{reflects_last, stands_on}
 use Rattle.shared_cache.proofs.client.ClientState.finish.Goals as goal
 
-pub push_reserved-requires : goal.push_reserved-requires
-push_reserved-requires c =
+pub record-requires : goal.record-requires
+record-requires c =
     let i = c.self.inside in
     let k = c.self.invariant.reflects in
     let open_ = ap (λ (st : Client). is_ended st.setup.mode c.args.wire st.past) c.self.view_is
@@ -27,7 +27,7 @@ invariant_of-self c =
     ∙ sym (ap (λ (st : Client). is_ready st.setup.mode st.past) c.self.view_is) in
     record {
       reflects = rw (
-        pushed i.log.items _ _ c.push_reserved.ensures.items,
+        c.record.ensures,
         c.forget_all.ensures.marks,
         c.forget_all.ensures.keys,
         c.has_ended_by-main.ensures
@@ -40,5 +40,6 @@ invariant_of-self c =
           let less = room_less i.mode.shape c.args.wire c.is_ready-ready.result i.ended i.side.ended
           (stands_on _ _ _ k c.args.wire open_) in
           let r = c.self.invariant.room in
+          let more = longer i.log _ _ c.record.ensures in
           rw (c.has_ended_by-main.ensures, c.has_ended_by-side.ensures) (omega arith);
     }

@@ -1,24 +1,17 @@
-use Rattle.std.proofs.Common.{◌++◌, ◌∷◌, [], arith, ap, ◌∙◌}
-use Rattle.shared_cache.specs.declared.log.Wire.TheVariants.{Main}
-use Rattle.shared_cache.specs.declared.log.LogEntry.TheVariants as entry
-use Rattle.shared_cache.proofs.NewestFirst.{pushed, at_most_one}
+use Rattle.std.proofs.Common.{arith}
+use Rattle.shared_cache.proofs.EndsLeft.{room_left}
 use Rattle.shared_cache.proofs.OtherTurns.{reflects_take_main}
 use Rattle.shared_cache.proofs.client.ClientState.give_main.Goals as goal
 
-pub invariant_of-self-2 : goal.invariant_of-self-2
-invariant_of-self-2 c =
+pub invariant_of-self : goal.invariant_of-self
+invariant_of-self c =
     let i = c.self.inside in
     record {
-      reflects = rw (pushed i.log.items _ _
-          (c.push_reserved.ensures.items
-          ∙ ap (λ l. l ++ entry.TakeOut Main c.args.most ∷ []) c.in_ok-reserve.ensures.items))
+      reflects = rw c.record.ensures
           (reflects_take_main _ _ _ c.self.invariant.reflects c.args.most _ c.advance.ensures);
-      room = omega (
-        arith,
-        at_most_one i.ended,
-        at_most_one i.side.ended,
-        c.in_ok-reserve.ensures.ok,
-      );
+      room =
+          room_left i.log _ _ i.owed (i.owed) 3 i.ended i.side.ended c.record.ensures
+          c.in_ok-reserve.ensures.ok (omega arith);
     }
 
 pub returns-clause-bytes : goal.returns-clause-bytes

@@ -1,8 +1,7 @@
 use Rattle.std.proofs.Common.{◌≡◌, ◌+◌, ◌-◌, ◌≤◌, true, false, get_or, arith, ap, sym, ◌∙◌}
-use Rattle.std.proofs.Common.{reverse}
+use Rattle.shared_cache.proofs.EndsLeft.{longer}
 use Rattle.shared_cache.specs.Log.{handshake_length}
 use Rattle.shared_cache.specs.Held.{Setup}
-use Rattle.shared_cache.proofs.NewestFirst.{pushed}
 use Rattle.shared_cache.specs.declared.entry.PendingReply.TheVariants.{Gone}
 use Rattle.shared_cache.specs.declared.log.ClientReply.TheVariants.{Answer}
 use Rattle.shared_cache.proofs.PendingLists.{owed_gone}
@@ -17,8 +16,8 @@ returns-then-number-before-clause-step c =
     let s : Setup = record { mode = i.mode; capacity = i.capacity; log_max = i.log_max } in
     let under : c.args.number ≤ handshake_length i.mode
     = omega (arith, c.handshake_length-before.ensures.length) in
-    rw (← c.self.view_is) (poll_unwanted s (reverse i.log.items) c.args.number
-    (low s (reverse i.log.items) c.args.number under))
+    rw (← c.self.view_is) (poll_unwanted s (i.log) c.args.number
+    (low s (i.log) c.args.number under))
 
 pub returns-then-number-before-2-clause-step : goal.returns-then-number-before-2-clause-step
 returns-then-number-before-2-clause-step c =
@@ -54,8 +53,8 @@ returns-else-self-clause-step c =
 pub overflow_sub-self : goal.overflow_sub-self
 overflow_sub-self c = grind (arith, owed_gone)
 
-pub push_reserved-requires : goal.push_reserved-requires
-push_reserved-requires c = grind (arith, owed_gone)
+pub record-requires : goal.record-requires
+record-requires c = grind (arith, owed_gone)
 
 pub invariant_of-self-in-There : goal.invariant_of-self-in-There
 invariant_of-self-in-There c =
@@ -66,10 +65,12 @@ invariant_of-self-in-There c =
     let one : i.owed ≡ i.owed - 1 + 1 =
     omega (arith, owed_gone i.pending place c.in-There.value c.in-There.ensures.0, k.owed_is) in
     record {
-      reflects = rw (pushed i.log.items _ _ c.push_reserved.ensures.items, c.in-There.ensures.1)
+      reflects = rw (c.record.ensures, c.in-There.ensures.1)
           (reflects_poll _ _ _ k c.args.number place c.in-There.value (omega (arith, before))
           (omega (arith, before, c.len.ensures)) c.in-There.ensures.0);
-      room = let r = c.self.invariant.room in omega arith;
+      room =
+          let r = c.self.invariant.room in
+          omega (arith, longer i.log _ _ c.record.ensures);
     }
 
 pub returns-in-There-clause-step : goal.returns-in-There-clause-step
@@ -80,4 +81,4 @@ returns-in-There-clause-step c =
     (omega (arith, before)) (omega (arith, before, c.len.ensures)) c.in-There.value
     (ap (λ b. get_or i.pending (c.args.number - b - 1) Gone) (sym before) ∙ c.in-There.ensures.0)
     ∙ ap (λ p. record { reply = Answer c.in-There.value; past = p })
-    (sym (pushed c.self.inside.log.items _ _ c.push_reserved.ensures.items)))
+    (sym c.record.ensures))

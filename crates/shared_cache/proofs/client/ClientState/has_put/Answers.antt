@@ -1,4 +1,4 @@
-use Rattle.std.proofs.Common.{◌≡◌, ◌+◌, length, reverse, arith, ap, sym, ◌∙◌}
+use Rattle.std.proofs.Common.{◌≡◌, ◌+◌, length, arith, ap, sym, ◌∙◌}
 use Rattle.shared_cache.specs.declared.log.Wire.TheVariants.{Main, Side}
 use Rattle.shared_cache.specs.Log.{handshake}
 use Rattle.shared_cache.specs.Held.{commands}
@@ -11,7 +11,7 @@ pub returns-in-Main : goal.returns-in-Main
 returns-in-Main c =
     let i = c.self.inside in
     let s : Setup = record { mode = i.mode; capacity = i.capacity; log_max = i.log_max } in
-    let log = reverse i.log.items in
+    let log = i.log in
     let begun = c.greeted.ensures.length
     ∙ sym (ap (λ (st : Client). length (handshake st.setup.mode Main st.past)) c.self.view_is) in
     let e : c.greeted.result + c.len.result ≡ length (commands s Main log)
@@ -31,6 +31,6 @@ returns-in-Side c =
     let i = c.self.inside in
     let s : Setup = record { mode = i.mode; capacity = i.capacity; log_max = i.log_max } in
     c.side_length.ensures
-    ∙ sym (side_put_count s (reverse i.log.items))
+    ∙ sym (side_put_count s (i.log))
     ∙ ap (λ (st : Client). length (commands st.setup Side st.past)) c.self.view_is
     ∙ ap (λ w. length (commands c.args.self.now.setup w c.args.self.now.past)) (sym c.in-Side.is)

@@ -1,6 +1,5 @@
-use Rattle.std.proofs.Common.{◌++◌, ◌∷◌, [], not, arith, ap, ◌∙◌, sym, refl}
-use Rattle.shared_cache.specs.declared.log.LogEntry.TheVariants as entry
-use Rattle.shared_cache.proofs.NewestFirst.{pushed, at_most_one}
+use Rattle.std.proofs.Common.{◌+◌, not, arith, ap, ◌∙◌, sym, refl}
+use Rattle.shared_cache.proofs.EndsLeft.{room_left}
 use Rattle.std.specs.List.{filter}
 use Rattle.command_words.specs.Queries.{key_of, names}
 use Rattle.fill_mark.specs.declared.marks.Mark.{Mark}
@@ -16,9 +15,7 @@ invariant_of-self-2 c =
     let k = c.self.invariant.reflects in
     record {
       reflects = rw (
-        pushed i.log.items _ _
-            (c.push_reserved.ensures.items
-            ∙ ap (λ l. l ++ entry.Send c.args.words ∷ []) c.in_ok-reserve.ensures.items),
+        c.record.ensures,
         c.in_ok-enqueue.ensures.queued,
         c.in_ok-enqueue.ensures.pending,
         c.in_ok-enqueue.ensures.named,
@@ -33,10 +30,7 @@ invariant_of-self-2 c =
           (c.in_ok-lead.ensures
           ∙ ap (λ (st : Client). send_lead st.setup.mode.caching
           (caching_on st.setup.mode st.past) (is_read c.args.words)) (sym c.self.view_is)) refl);
-      room = omega (
-        arith,
-        at_most_one i.ended,
-        at_most_one i.side.ended,
-        c.in_ok-reserve.ensures.ok,
-      );
+      room =
+          room_left i.log _ _ i.owed (i.owed + 1) 4 i.ended i.side.ended c.record.ensures
+          c.in_ok-reserve.ensures.ok (omega arith);
     }

@@ -1,16 +1,15 @@
-use Rattle.std.proofs.Common.{◌≡◌, ◌+◌, ◌++◌, ◌∷◌, [], length, reverse, arith, ap, ◌∙◌, refl}
+use Rattle.std.proofs.Common.{◌≡◌, ◌+◌, length, arith, ap, ◌∙◌, refl}
 use Rattle.std.proofs.Common.{None, cond, drop}
 use Rattle.std.specs.Prelude.{nat_lt}
 use Rattle.std.specs.List.{slice_get}
 use Rattle.shared_cache.specs.declared.log.Wire.TheVariants.{Main}
-use Rattle.shared_cache.specs.declared.log.LogEntry.TheVariants as entry
 use Rattle.shared_cache.specs.Notices.{notice_of}
 use Rattle.shared_cache.specs.Log.{replies}
 use Rattle.shared_cache.specs.Held.{commands}
 use Rattle.shared_cache.specs.Steps.{fault_of}
 use Rattle.shared_cache.specs.Held.{Setup}
-use Rattle.shared_cache.specs.ClientFields.{Client}
-use Rattle.shared_cache.proofs.NewestFirst.{pushed, at_most_one}
+use Rattle.shared_cache.specs.ClientFields.{Client, settled}
+use Rattle.shared_cache.proofs.EndsLeft.{room_left}
 use Rattle.shared_cache.proofs.Handshakes.{handshake_within, put_count}
 use Rattle.shared_cache.proofs.StepCases.{awaits}
 use Rattle.std.proofs.lemmas.Bool.{leb-false}
@@ -27,7 +26,7 @@ overflow_add-number c =
       arith,
       k.replied_within,
       k.pending_count,
-      handshake_within i.mode (reverse i.log.items),
+      handshake_within i.mode (i.log),
       c.handshake_length-before.ensures.length,
       c.handshake_length-before.ensures.within.1,
       c.len.ensures.count,
@@ -39,7 +38,7 @@ put_reply-requires c =
     let i = c.self.inside in
     let k = c.self.invariant.reflects in
     let s : Setup = record { mode = i.mode; capacity = i.capacity; log_max = i.log_max } in
-    let log = reverse i.log.items in
+    let log = i.log in
     let fault : fault_of s log Main c.args.value ≡ None
     = ap (λ (st : Client). fault_of st.setup st.past Main c.args.value) c.self.view_is
     ∙ c.requires.awaited in
@@ -62,7 +61,7 @@ invariant_of-self-2 c =
     let i = c.self.inside in
     let k = c.self.invariant.reflects in
     let s : Setup = record { mode = i.mode; capacity = i.capacity; log_max = i.log_max } in
-    let log = reverse i.log.items in
+    let log = i.log in
     let fault : fault_of s log Main c.args.value ≡ None =
     ap (λ (st : Client). fault_of st.setup st.past Main c.args.value) c.self.view_is
     ∙ c.requires.awaited in
@@ -75,22 +74,17 @@ invariant_of-self-2 c =
     ∙ ap (λ b. cond (nat_lt b number) (slice_get i.named 0) None) before in
     record {
       reflects = rw (
-        pushed i.log.items _ _
-            (c.push_reserved.ensures.items
-            ∙ (λ j. c.in_ok-reserve.ensures.items j ++ entry.Got Main
-            (c.in_ok-logged.ensures j) ∷ [])),
-        c.put_reply.ensures,
+        c.record_got-value.ensures.log,
+        c.put_reply.ensures
+            ∙ ap (λ v. settled i.mode number v i.pending) c.record_got-value.ensures.value,
         c.in_ok-refill.ensures.marks,
         c.in_ok-refill.ensures.keys
-            ∙ (λ j. answered_keys (front j) (query_marked number i.marks) number
-            (c.in_ok-logged.ensures j) i.keys),
+            ∙ (λ j. answered_keys (front j) (query_marked number i.marks) number c.args.value
+            i.keys),
         c.drop_number.ensures ∙ ap (λ b. cond (nat_lt b number) (drop 1 i.named) i.named) before,
       )
           (reflects_reply _ _ _ k c.args.value number reply a.0 a.1 refl);
-      room = omega (
-        arith,
-        at_most_one i.ended,
-        at_most_one i.side.ended,
-        c.in_ok-reserve.ensures.ok,
-      );
+      room =
+          room_left i.log _ _ i.owed (i.owed) 3 i.ended i.side.ended c.record_got-value.ensures.log
+          c.in_ok-reserve.ensures.ok (omega arith);
     }

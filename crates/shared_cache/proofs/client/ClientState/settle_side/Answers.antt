@@ -1,12 +1,11 @@
-use Rattle.std.proofs.Common.{◌≡◌, ◌+◌, ◌++◌, ◌∷◌, [], reverse, arith, ap, ◌∙◌, refl}
+use Rattle.std.proofs.Common.{◌≡◌, ◌+◌, arith, ap, ◌∙◌, refl}
 use Rattle.std.proofs.Common.{None}
 use Rattle.shared_cache.specs.declared.log.Wire.TheVariants.{Side}
-use Rattle.shared_cache.specs.declared.log.LogEntry.TheVariants as entry
 use Rattle.shared_cache.specs.Notices.{notice_of}
 use Rattle.shared_cache.specs.Steps.{fault_of}
 use Rattle.shared_cache.specs.Held.{Setup}
 use Rattle.shared_cache.specs.ClientFields.{Client}
-use Rattle.shared_cache.proofs.NewestFirst.{pushed, at_most_one}
+use Rattle.shared_cache.proofs.EndsLeft.{room_left}
 use Rattle.shared_cache.proofs.Handshakes.{side_at_most}
 use Rattle.shared_cache.proofs.StepCases.{awaits}
 use Rattle.shared_cache.proofs.Gots.{reflects_side}
@@ -21,7 +20,7 @@ invariant_of-self-2 c =
     let i = c.self.inside in
     let k = c.self.invariant.reflects in
     let s : Setup = record { mode = i.mode; capacity = i.capacity; log_max = i.log_max } in
-    let log = reverse i.log.items in
+    let log = i.log in
     let fault : fault_of s log Side c.args.value ≡ None =
     ap (λ (st : Client). fault_of st.setup st.past Side c.args.value) c.self.view_is
     ∙ c.requires.awaited in
@@ -31,19 +30,14 @@ invariant_of-self-2 c =
     let number = i.side.replied + 1 in
     record {
       reflects = rw (
-        pushed i.log.items _ _
-            (c.push_reserved.ensures.items
-            ∙ ap (λ l. l ++ entry.Got Side c.args.value ∷ []) c.in_ok-reserve.ensures.items),
+        c.record.ensures,
         c.in_ok-add.ensures.ok,
         c.deref.ensures.value,
       )
           (reflects_side _ _ _ k c.args.value number c.in_ok-id.id c.in_ok-bytes.bytes.items reply
           a.0 refl c.in_ok-id.ensures
           c.in_ok-bytes.ensures);
-      room = omega (
-        arith,
-        at_most_one i.ended,
-        at_most_one i.side.ended,
-        c.in_ok-reserve.ensures.ok,
-      );
+      room =
+          room_left i.log _ _ i.owed (i.owed) 3 i.ended i.side.ended c.record.ensures
+          c.in_ok-reserve.ensures.ok (omega arith);
     }

@@ -1,5 +1,4 @@
 use Rattle.std.proofs.Common.{◌≡◌, ◌+◌, arith, ap, cond, subst, sym, ◌∙◌}
-use Rattle.std.proofs.lemmas.List.{length-reverse}
 use Rattle.std.proofs.lemmas.Result.{err_from_is_err_and}
 use Rattle.shared_cache.specs.declared.log.ClientCall.TheVariants as call
 use Rattle.shared_cache.specs.declared.log.ClientReply.{ClientReply}
@@ -46,7 +45,7 @@ counted-main-requires c =
     let g = got_more c.args.wire i.state.past c.turn.new.state.past c.args.value
     (noted (goal.at.counted-main-requires c).In-Noted) in
     let le = gots_within Main i.state.past in
-    grind (arith, length-reverse)
+    grind arith
 
 pub counted-side-requires : goal.counted-side-requires
 counted-side-requires c =
@@ -54,7 +53,7 @@ counted-side-requires c =
     let g = got_more c.args.wire i.state.past c.turn.new.state.past c.args.value
     (noted (goal.at.counted-side-requires c).In-Noted) in
     let le = gots_within Side i.state.past in
-    grind (arith, length-reverse)
+    grind arith
 
 pub invariant_of-self-in-Noted : goal.invariant_of-self-in-Noted
 invariant_of-self-in-Noted c =

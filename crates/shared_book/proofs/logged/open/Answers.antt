@@ -1,5 +1,0 @@
-use Rattle.seat_turns.proofs.Turning.{within_first}
-use Rattle.shared_book.proofs.logged.open.Goals as goal
-
-pub returns-in-Ok-clause-within : goal.returns-in-Ok-clause-within
-returns-in-Ok-clause-within c = within_first _ _ _ c.in-Ok.ensures
