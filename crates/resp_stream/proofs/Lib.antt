@@ -5,6 +5,7 @@ pub mod Closing
 pub mod Compose
 pub mod FaultPieces
 pub mod Line
+pub mod LastWord
 pub mod LongBlob
 pub mod Onward
 pub mod Opening

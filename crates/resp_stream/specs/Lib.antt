@@ -1,3 +1,4 @@
+pub mod LongBlobs
 pub mod Parse
 pub mod Parsed
 pub mod ReaderLaws

@@ -1,6 +1,6 @@
 -- How far a request was read: the text reads as its rest does after what is kept.
-use Rattle.std.specs.Prelude.{◌≡◌, ◌≤◌, ◌<◌, ℕ, List, ◌++◌, length, take, drop, true, Result, Ok}
-use Rattle.std.specs.Prelude.{Err}
+use Rattle.std.specs.Prelude.{◌≡◌, ◌≤◌, ◌<◌, ◌+◌, ℕ, List, [], ◌∷◌, ◌++◌, length, take, drop}
+use Rattle.std.specs.Prelude.{true, Result, Ok, Err}
 use Rattle.resp_stream.specs.Parsed.{Parsed, Whole, More, Bad, ◌>>=◌}
 use Rattle.resp_stream.specs.Tokens.{many, Passed}
 use Rattle.resp_stream.specs.Request.{word_at, request_begun, request_at, skip_empty, line_limit}
@@ -27,6 +27,18 @@ pub record HasWords (text : List ℕ) (at left : ℕ) (words : List (List ℕ)) 
 abbrev pub IsProgress : List ℕ → Progress → Type 0
 IsProgress text (Line seen) = (seen ≤ length text) × Passed true line_limit (take seen text)
 IsProgress text (Words at left words) = HasWords text at left words
+
+-- the words that are kept
+abbrev pub words_so_far : Progress → List (List ℕ)
+words_so_far (Line seen) = []
+words_so_far (Words at left words) = words
+
+-- The text begins with a request of these words and one more, whose `count` bytes stand from
+-- `first` on.
+pub record IsLastAt (text : List ℕ) (words : List (List ℕ)) (first count : ℕ) : Type 0 where
+  pub within : first + count + 2 ≤ length text
+  pub is : request_at text ≡ Whole (words ++ take count (drop first text) ∷ [])
+      (drop (first + count + 2) text)
 
 abbrev pub RequestStepGives : List ℕ → Result RequestStep ReadStop → Type 0
 RequestStepGives text (Ok (step.Whole words taken)) =

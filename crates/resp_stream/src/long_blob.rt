@@ -1,10 +1,12 @@
 //! Where a long blob lies that came in pieces.
-ghost use Rattle.std.specs.Prelude.{◌≡◌, ◌∷◌, IfSome};
+ghost use Rattle.std.specs.Prelude.{◌≡◌, ◌≤◌, ◌+◌, ◌∷◌, IfSome};
+ghost use Rattle.resp_stream.specs.LongBlobs.{LiesAt};
+ghost use Rattle.resp_stream.specs.Tokens.{IsRule};
 ghost use Rattle.resp_stream.specs.ValueSteps.{IsBlobAt};
 
 use super::fault::WHOLE_LIMIT;
 use super::leaf::BLOB;
-use super::tokens::{head_of, length_of};
+use super::tokens::{LengthRule, head_of, length_of};
 
 /// Shorter ones are copied: their memory then has no more room than they need, at less cost.
 const LONG: usize = 4096;
@@ -29,21 +31,23 @@ fn behind_end(bytes: &[u8]) -> Option<&[u8]>
     }
 }
 
-/// The blob that the text begins with, where it is long, whole, and no shorter than what stands
-/// behind it.
-pub(crate) fn long_blob(text: &[u8]) -> Option<BlobPlace>
-    ensures { IfSome result (λ p. IsBlobAt text.now p.first p.count) }
+/// The blob that the text begins with, where it is long, whole, no shorter than what stands behind
+/// it, and at its end within so many bytes.
+pub(crate) fn place_of(rule: LengthRule, most: usize, text: &[u8]) -> Option<BlobPlace>
+    requires { IsRule rule }
+    ensures lies { IfSome result (λ p. LiesAt rule text.now p.first p.count) }
+    ensures within { IfSome result (λ p. p.first + p.count + 2 ≤ most) }
 {
     let (mark, rest) = head_of(text)?;
     if mark != b'$' {
         return None;
     }
-    let Ok(Some((Some(length), rest))) = length_of(BLOB, rest) else {
+    let Ok(Some((Some(length), rest))) = length_of(rule, rest) else {
         return None;
     };
     let first = text.len() - rest.len();
     let count = length as usize;
-    if count < LONG || rest.len() < count || WHOLE_LIMIT < first + count + 2 {
+    if count < LONG || rest.len() < count || most < first + count + 2 {
         return None;
     }
     let (_, after) = rest.split_at(count);
@@ -52,4 +56,11 @@ pub(crate) fn long_blob(text: &[u8]) -> Option<BlobPlace>
         return None;
     }
     Some(BlobPlace { first, count })
+}
+
+/// A value that is such a blob.
+pub(crate) fn long_blob(text: &[u8]) -> Option<BlobPlace>
+    ensures { IfSome result (λ p. IsBlobAt text.now p.first p.count) }
+{
+    place_of(BLOB, WHOLE_LIMIT, text)
 }

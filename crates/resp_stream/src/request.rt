@@ -1,6 +1,6 @@
 //! Requests, read from the front of a text in any number of steps.
 ghost use Rattle.std.specs.Prelude.{◌≡◌, true, ◌++◌, ◌∷◌, [], ℕ, ◌≤◌, ◌<◌, ◌^◌, ◌-◌, List, length};
-ghost use Rattle.std.specs.Prelude.{take, drop, IfOk, OnOk, OnErr};
+ghost use Rattle.std.specs.Prelude.{take, drop, IfOk, IfSome, OnOk, OnErr};
 ghost use Rattle.std.specs.Prelude.{◌+◌};
 ghost use Rattle.resp_stream.specs.Results.{Gives};
 ghost use Rattle.resp_stream.specs.Tokens.{Passed};
@@ -8,8 +8,10 @@ ghost use Rattle.resp_stream.specs.Request.{is_blank, some_word, words_after, wo
 ghost use Rattle.resp_stream.specs.Request.{line_limit, request_begun};
 ghost use Rattle.resp_stream.specs.RequestSteps.{HasWords, RequestStepGives, IsProgress};
 ghost use Rattle.resp_stream.specs.RequestSteps.{RequestReadingGives, NextGives};
+ghost use Rattle.resp_stream.specs.RequestSteps.{IsLastAt, words_so_far};
 
 use super::fault::{Broken, Fault, ReadStop, WHOLE_LIMIT, limited};
+use super::long_blob::{BlobPlace, place_of};
 use super::tokens::{LengthRule, byte_of, counted_of, head_of, length_of, line_of};
 use resp_value::{NoMemory, Octets, Words};
 use std::alloc::Global;
@@ -165,6 +167,35 @@ fn read_words(
         }
     }
     Ok(RequestStep::Whole { words, taken: at })
+}
+
+/// The words that are kept.
+pub(crate) fn words_so_far(alloc: Global, progress: Progress) -> Words
+    ensures { result ≡ words_so_far progress }
+{
+    match progress {
+        Progress::Line { .. } => Words::new(alloc),
+        Progress::Words { words, .. } => words,
+    }
+}
+
+/// The place of the one word that is missing, where it is long and whole.
+pub(crate) fn last_word(text: &[u8], progress: &Progress) -> Option<BlobPlace>
+    requires { IsProgress text.now progress.now }
+    ensures { IfSome result
+        (λ p. IsLastAt text.now (words_so_far progress.now) p.first p.count) }
+{
+    match progress {
+        Progress::Words { at, left: 1, .. } => {
+            let (_, rest) = text.split_at(*at);
+            let place = place_of(WORD, WHOLE_LIMIT.saturating_sub(*at), rest)?;
+            Some(BlobPlace {
+                first: at + place.first,
+                count: place.count,
+            })
+        }
+        _ => None,
+    }
 }
 
 /// A line of words.

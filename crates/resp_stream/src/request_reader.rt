@@ -1,12 +1,14 @@
 //! The requests of a stream.
-ghost use Rattle.std.specs.Prelude.{◌≡◌, ◌<◌, true, length, IsOk, OnOk, OnErr};
+ghost use Rattle.std.specs.Prelude.{◌≡◌, ◌<◌, true, false, length, IsOk, OnOk, OnErr};
 ghost use Rattle.resp_stream.specs.Stream.{begun, fed};
 ghost use Rattle.resp_stream.specs.Readers.{RequestGives, NotMemory, OnItem, IfFault};
+ghost use Rattle.resp_stream.specs.RequestSteps.{IsLastAt};
 
 use super::fault::StreamFault;
 use super::input::Input;
-use super::request::{Next, Progress, next_in};
-use resp_value::{NoMemory, Words};
+use super::long_blob::BlobPlace;
+use super::request::{Next, Progress, last_word, next_in, words_so_far};
+use resp_value::{NoMemory, Octets, Words};
 use std::alloc::Global;
 use std::marker::Model;
 use std::mem;
@@ -66,6 +68,9 @@ impl RequestReader {
             return Err(fault);
         }
         let progress = mem::replace(&mut self.progress, Progress::Line { seen: 0 });
+        if let Some(place) = last_word(self.input.bytes(), &progress) {
+            return self.cut(words_so_far(self.alloc, progress), place);
+        }
         match next_in(self.alloc, self.input.bytes(), progress) {
             Err(_) => Err(StreamFault::NoMemory),
             Ok(Next::Whole { words, taken }) => {
@@ -82,5 +87,26 @@ impl RequestReader {
                 Err(self.input.fail(fault, at))
             }
         }
+    }
+
+    /// Answers the request of these words and a last one, which stands at this place, in the memory
+    /// that it was fed into. The last one can't go back, so there is room for it first.
+    fn cut(&mut self, words: Words, place: BlobPlace) -> Result<Option<Words>, StreamFault>
+        requires place { IsLastAt self.old.rest words place.first place.count }
+        requires open { self.old.failed ≡ false }
+        ensures gives { RequestGives self.old self.new result }
+        ensures words { OnItem result (λ ws. 0 < length ws) }
+    {
+        let mut words = words;
+        let empty = Octets::from_vec(Vec::new(self.alloc));
+        let Ok(()) = words.push(empty) else {
+            return Err(StreamFault::NoMemory);
+        };
+        let Ok(word) = self.input.cut(place.first, place.count) else {
+            return Err(StreamFault::NoMemory);
+        };
+        self.progress = Progress::Line { seen: 0 };
+        words.set_last(word);
+        Ok(Some(words))
     }
 }

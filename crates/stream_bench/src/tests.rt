@@ -2,6 +2,7 @@
 mod byte_queues;
 mod long_blobs;
 mod long_replies;
+mod long_words;
 mod longest_value;
 mod octets;
 mod out_queues;

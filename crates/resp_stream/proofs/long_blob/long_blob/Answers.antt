@@ -1,23 +1,6 @@
-use Rattle.std.proofs.Common.{◌∙◌, ◌∷◌, ap, refl, sym}
-use Rattle.resp_stream.specs.Parsed.{Whole}
-use Rattle.resp_stream.proofs.LongBlob.{blob_here, length_goes}
+use Rattle.std.proofs.Common.{arith}
+use Rattle.resp_stream.proofs.LongBlob.{blob_here}
 use Rattle.resp_stream.proofs.long_blob.long_blob.Goals as goal
 
-pub overflow_sub-first : goal.overflow_sub-first
-overflow_sub-first c =
-    let b = c.in-Ok-Some-Some-default.rest.now in
-    (length_goes c.args.text.now c.in_ok-mark.rest.now b c.in-Ok-Some-Some-default.length
-    (c.in_ok-mark.ensures.some ∙ ap (λ m. m ∷ c.in_ok-mark.rest.now) c.if-mark-ne36.false)
-    ((rw c.in-Ok-Some-Some-default.field-0-is at c.in-Ok-Some-Some-default.ensures.gives)
-    ∙ ap (λ n. Whole n b) c.in-Ok-Some-Some-default.field-0-0-0-is)).within
-
 pub returns : goal.returns
-returns c =
-    let b = c.in-Ok-Some-Some-default.rest.now in
-    blob_here c.args.text.now c.in_ok-mark.rest.now b c.in_ok-behind.behind.now
-    c.in-Ok-Some-Some-default.length _
-    (c.in_ok-mark.ensures.some ∙ ap (λ m. m ∷ c.in_ok-mark.rest.now) c.if-mark-ne36.false)
-    ((rw c.in-Ok-Some-Some-default.field-0-is at c.in-Ok-Some-Some-default.ensures.gives)
-    ∙ ap (λ n. Whole n b) c.in-Ok-Some-Some-default.field-0-0-0-is)
-    c.if-rest-count.false (sym c.split_at.ensures.back ∙ c.in_ok-behind.ensures) refl
-    c.if-first-count-gt-WHOLE_LIMIT.false
+returns c = grind (arith, blob_here)
