@@ -5,7 +5,6 @@ use Rattle.std.specs.Io.KnownBytes.{Appends, Consumes, IsAtEnd}
 use Rattle.edge_links.specs.declared.counts.Counts.{Counts}
 use Rattle.edge_links.specs.Counts.{EndCounted, FaultCounted}
 use Rattle.resp_value.specs.Lists.{IsPrefix}
-use Rattle.script_text.specs.Events.{longest_line}
 use Rattle.edge_lines.specs.declared.lines.LineRead.{LineRead}
 use Rattle.edge_lines.specs.declared.lines.LineRead.TheVariants.{Line, Last, End, TooLong}
 use Rattle.edge_lines.specs.declared.lines.LineRead.TheVariants.{Failed, NoMemory}
@@ -20,15 +19,17 @@ IsPlain (b ∷ bytes) = (b ≡ 10 → ⊥) × IsPlain bytes
 abbrev pub AppendsFirst : Option (List ℕ) → Option (List ℕ) → List ℕ → Type 0
 AppendsFirst old new bytes = (first : List ℕ) × IsPrefix first bytes × Appends old new first
 
-abbrev pub ReadsLine : LineRead → Option (List ℕ) → Option (List ℕ) → Type 0
-ReadsLine (Line line) old new = IsPlain line.items × Consumes old new (line.items ++ 10 ∷ [])
-ReadsLine (Last line) old new =
+-- a line may have so many bytes without its LF
+abbrev pub ReadsLine : ℕ → LineRead → Option (List ℕ) → Option (List ℕ) → Type 0
+ReadsLine longest (Line line) old new =
+    IsPlain line.items × Consumes old new (line.items ++ 10 ∷ [])
+ReadsLine longest (Last line) old new =
     IsPlain line.items × (line.items ≡ [] → ⊥) × Consumes old new line.items × IsAtEnd new
-ReadsLine End old new = Consumes old new [] × IsAtEnd new
-ReadsLine TooLong old new =
-    (part : List ℕ) × IsPlain part × (longest_line < length part) × Consumes old new part
-ReadsLine Failed old new = (part : List ℕ) × IsPlain part × Consumes old new part
-ReadsLine NoMemory old new = (part : List ℕ) × IsPlain part × Consumes old new part
+ReadsLine longest End old new = Consumes old new [] × IsAtEnd new
+ReadsLine longest TooLong old new =
+    (part : List ℕ) × IsPlain part × (longest < length part) × Consumes old new part
+ReadsLine longest Failed old new = (part : List ℕ) × IsPlain part × Consumes old new part
+ReadsLine longest NoMemory old new = (part : List ℕ) × IsPlain part × Consumes old new part
 
 -- one answer is a counted fault, two are counted ends, and the others leave the counts as they were
 abbrev pub LineCounts : LineRead → Counts → Counts → Type 0

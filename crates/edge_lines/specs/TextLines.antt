@@ -3,7 +3,6 @@ use Rattle.std.specs.Prelude.{◌≡◌, ◌<◌, ◌==◌, ◌⊎◌, ℕ, List
 use Rattle.std.specs.Prelude.{if◌then◌else◌}
 use Rattle.std.specs.declared.option.Option.{Option}
 use Rattle.std.specs.Io.KnownBytes.{Consumes, IsAtEnd}
-use Rattle.script_text.specs.Events.{longest_line}
 use Rattle.edge_lines.specs.Streams.{IsPlain}
 
 -- a byte goes before the first line, or is a line of its own
@@ -38,6 +37,6 @@ ReadsWhole line more in1 =
     × ((more ≡ line ++ 10 ∷ []) ⊎ ((line ≡ [] → ⊥) × (more ≡ line) × IsAtEnd in1))
 
 -- the line was read whole, or so far that it is too long whatever follows
-abbrev pub ReadsBad : List ℕ → List ℕ → Option (List ℕ) → Type 0
-ReadsBad line more in1 =
-    ReadsWhole line more in1 ⊎ (IsPlain line × (more ≡ line) × (longest_line < length line))
+abbrev pub ReadsBad : ℕ → List ℕ → List ℕ → Option (List ℕ) → Type 0
+ReadsBad longest line more in1 =
+    ReadsWhole line more in1 ⊎ (IsPlain line × (more ≡ line) × (longest < length line))

@@ -3,7 +3,6 @@ ghost use Rattle.std.specs.Prelude.{◌≡◌};
 ghost use Rattle.edge_lines.specs.Streams.{ReadsLine, LineCounts, WritesAll, AllCounts};
 
 use edge_links::{Sink, Source, SourceRead, Wrote};
-use script_text::LONGEST_LINE;
 use std::alloc::Global;
 
 /// What a line of a source came to. A line is given without its LF.
@@ -15,7 +14,7 @@ pub enum LineRead {
     Last(Vec<u8>),
     /// The source is at its end, and no byte came before it.
     End,
-    /// The line has more than `LONGEST_LINE` bytes.
+    /// The line has more bytes than a line may have.
     TooLong,
     Failed,
     NoMemory,
@@ -25,14 +24,14 @@ pub enum LineRead {
 #[derive(Clone, Copy, Debug, PartialEq, Eq)]
 pub struct SinkFailed;
 
-/// Reads the next line, and nothing after it.
-pub fn read_line<S: Source>(alloc: Global, source: &mut S) -> LineRead
-    ensures bytes { ReadsLine result (S.left source.old) (S.left source.new) }
+/// Reads the next line, and nothing after it. Without its LF it may have `longest` bytes.
+pub fn read_line<S: Source>(alloc: Global, source: &mut S, longest: usize) -> LineRead
+    ensures bytes { ReadsLine longest result (S.left source.old) (S.left source.new) }
     ensures counts { LineCounts result (S.counts source.old) (S.counts source.new) }
 {
     let mut line = Vec::new(alloc);
     let mut byte = [0u8; 1];
-    for count in 0..LONGEST_LINE + 1 {
+    while line.len() <= longest {
         match source.read(&mut byte) {
             SourceRead::Bytes(_) => {
                 if byte[0] == b'\n' {

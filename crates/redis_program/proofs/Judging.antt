@@ -50,8 +50,8 @@ whole_first line more rest in1 r none = elim r.1 [
   )
 ]
 
-bad_first : (n : ℕ) (line more rest : List ℕ) (in1 : Option (List ℕ)) → ReadsBad line more in1
-    → event_at n line ≡ None → (IsAtEnd in1 → rest ≡ [])
+bad_first : (n : ℕ) (line more rest : List ℕ) (in1 : Option (List ℕ))
+    → ReadsBad longest_line line more in1 → event_at n line ≡ None → (IsAtEnd in1 → rest ≡ [])
     → (first : List ℕ) × (others : List (List ℕ))
     × (text_lines (more ++ rest) ≡ first ∷ others) × (event_at n first ≡ None)
 bad_first n line more rest in1 r h none = elim r [

@@ -168,7 +168,7 @@ abbrev pub Next : Limits → Ending → Option (List ℕ) → List Event → ℕ
 Next limits Done in1 events n w more printed = ⊥
 Next limits (BadLine number) in1 events n w more printed =
     (number ≡ n) × (printed ≡ [])
-    × (line : List ℕ) × ReadsBad line more in1 × (event_at n line ≡ None)
+    × (line : List ℕ) × ReadsBad longest_line line more in1 × (event_at n line ≡ None)
 Next limits ReadFault in1 events n w more printed = (printed ≡ []) × IsPlain more
 Next limits WriteFault in1 events n w more printed =
     (line : List ℕ) × (event : Event) × ReadsWhole line more in1

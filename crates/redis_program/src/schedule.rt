@@ -17,7 +17,7 @@ use super::status::{Ending, Status};
 use edge_lines::{LineRead, SinkFailed, read_line, write_all};
 use edge_links::{Sink, Source};
 use resp_value::NoMemory;
-use script_text::{Event, Lines, put_line, read_event};
+use script_text::{Event, LONGEST_LINE, Lines, put_line, read_event};
 use serial_model::Limits;
 use std::alloc::Global;
 use world_run::{World, WorldFault, law_one_history};
@@ -94,7 +94,7 @@ fn play_lines<S: Source, K: Sink>(
 {
     law_one_history();
     for number in 1..MOST_LINES + 2 {
-        match read_line(alloc, input) {
+        match read_line(alloc, input, LONGEST_LINE) {
             LineRead::Line(line) => match play(alloc, world, number, line.as_slice(), output) {
                 Ok(()) => {}
                 Err(ending) => return ending,

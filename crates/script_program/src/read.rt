@@ -9,7 +9,7 @@ ghost use Rattle.script_program.specs.Pushed.{Pushes, AreValid};
 use edge_lines::{LineRead, read_line};
 use edge_links::Source;
 use resp_value::NoMemory;
-use script_text::{ScriptLine, read_script_line};
+use script_text::{LONGEST_LINE, ScriptLine, read_script_line};
 use std::alloc::Global;
 
 /// How many lines a script may have.
@@ -62,7 +62,7 @@ pub fn read_script<S: Source>(alloc: Global, input: &mut S) -> ScriptRead
 {
     let mut lines = Vec::new(alloc);
     for number in 1..MOST_LINES + 2 {
-        match read_line(alloc, input) {
+        match read_line(alloc, input, LONGEST_LINE) {
             LineRead::Line(text) => match push_line(alloc, number, text.as_slice(), &mut lines) {
                 Some(read) => return read,
                 None => {}

@@ -10,10 +10,9 @@ ghost use Rattle.shared_client.specs.Turns.{IsLinked, Gets, GetsNot, Ends, WornO
 use super::logged::SharedClient;
 use command_words::Query;
 use resp_value::{Octets, Value, Words};
-use turn_lock::play;
 use shared_cache::{ClientCall, ClientRefusal, ClientReply, Wire};
 use std::sync::Wait;
-use turn_lock::{Seat, TurnLock, Worn};
+use turn_lock::{Seat, TurnLock, Worn, play};
 
 /// What a query came to.
 #[derive(Drop)]

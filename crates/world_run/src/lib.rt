@@ -9,6 +9,7 @@ mod member;
 mod moves;
 mod playing;
 mod points;
+mod refusal_numbers;
 mod world;
 
 pub use laws::{law_one_history, law_refusals_change_nothing};

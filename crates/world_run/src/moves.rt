@@ -22,6 +22,7 @@ use super::asks::put_line;
 use super::link_end::LinkEnd;
 use super::member::Member;
 use super::playing::{refused_fault, turn};
+use super::refusal_numbers::{BAD_PUSH, SETUP_REFUSED, UNEXPECTED};
 use resp_stream::{FaultPlace, ValueReader};
 use resp_value::{NoMemory, Octets, Value};
 use script_text::{Line, Lines};
@@ -44,9 +45,9 @@ fn ending_line(link: &Octets, refusal: ClientRefusal) -> Result<Option<Line>, No
     ensures { IfOk result (λ l. option_to_list l ≡ ending_lines link.now refusal) }
 {
     match refusal {
-        ClientRefusal::Unexpected { .. } => Ok(Some(Line::Fault(link.copy()?, 2))),
-        ClientRefusal::BadPush { .. } => Ok(Some(Line::Fault(link.copy()?, 3))),
-        ClientRefusal::SetupRefused { .. } => Ok(Some(Line::Fault(link.copy()?, 6))),
+        ClientRefusal::Unexpected { .. } => Ok(Some(Line::Fault(link.copy()?, UNEXPECTED))),
+        ClientRefusal::BadPush { .. } => Ok(Some(Line::Fault(link.copy()?, BAD_PUSH))),
+        ClientRefusal::SetupRefused { .. } => { Ok(Some(Line::Fault(link.copy()?, SETUP_REFUSED))) }
         _ => Ok(None),
     }
 }

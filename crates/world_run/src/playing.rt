@@ -6,6 +6,7 @@ ghost use Rattle.world_run.specs.ClientMoves.{fault_of, refused_fault};
 ghost use Rattle.world_run.specs.MemberTurns.{IsNoValue, TurnGives};
 
 use super::member::Member;
+use super::refusal_numbers::{CONTROL, NO_NUMBER};
 use resp_value::NoMemory;
 use server_links::WorldFault;
 use shared_cache::{ClientCall, ClientRefusal, ClientReply, ClientState};
@@ -34,8 +35,8 @@ pub fn refused_fault(refusal: ClientRefusal) -> Option<WorldFault>
 {
     match refusal {
         ClientRefusal::LogFull { entries } => Some(WorldFault::HistoryFull { entries }),
-        ClientRefusal::Control => Some(WorldFault::Refused { number: 8 }),
-        ClientRefusal::NoNumber { .. } => Some(WorldFault::Refused { number: 9 }),
+        ClientRefusal::Control => Some(WorldFault::Refused { number: CONTROL }),
+        ClientRefusal::NoNumber { .. } => Some(WorldFault::Refused { number: NO_NUMBER }),
         _ => None,
     }
 }

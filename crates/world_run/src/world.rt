@@ -20,6 +20,7 @@ use super::laws::law_one_history;
 use super::link_end::{ClientEnd, link_on};
 use super::living::Living;
 use super::member::Member;
+use super::refusal_numbers::NOT_SERVED;
 use command_words::Query;
 use resp_value::{NoMemory, Octets, Proto, Words, put_request};
 use script_text::{Event, Lines};
@@ -256,7 +257,7 @@ impl World {
             self.new lines.new }
     {
         if !is_served(mode) {
-            return Err(WorldFault::Refused { number: 0 });
+            return Err(WorldFault::Refused { number: NOT_SERVED });
         }
         if self.is_taken(name) {
             return Err(WorldFault::NameTaken);
