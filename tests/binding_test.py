@@ -226,6 +226,19 @@ class Types(Test):
         self.assertEqual(redis.execute("SMEMBERS", "s"), {b"a", b"b"})
         self.assertEqual(redis.execute("SLOWSET", "s"), [[b"a"]])
 
+    def test_maps(self):
+        redis = self.connect()
+        long = b"x" * 300
+        rows = [(b"%0\r\n", {}), (b"%1\r\n$1\r\na\r\n_\r\n", {b"a": None}),
+                (b"%1\r\n$0\r\n\r\n$300\r\n" + long + b"\r\n", {b"": long}),
+                # as many lines as with texts alone, and lines that look like sizes
+                (b"%1\r\n$5\r\na\r\n$1\r\n:5\r\n", {b"a\r\n$1": 5}),
+                (b"%1\r\n$2\r\n\r\n\r\n$4\r\n\r\n$1\r\n", {b"\r\n": b"\r\n$1"}),
+                (b"%1\r\n*1\r\n$1\r\na\r\n$1\r\nb\r\n", [([b"a"], b"b")])]
+        for answer, wanted in rows:
+            self.server.answers[b"MAP"] = answer
+            self.assertEqual(redis.execute("MAP"), wanted)
+
     def test_no_copy(self):
         with self.assertRaises(TypeError):
             copy.copy(self.connect())

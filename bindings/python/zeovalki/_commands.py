@@ -5,7 +5,7 @@ import os
 
 from ._library import Client
 from ._link import Address
-from ._resp import ReplyError, word_of
+from ._resp import ReplyError, request_of, request_to_read, value_of, word_of
 
 
 class Settings:
@@ -62,25 +62,29 @@ def _microseconds(max_age):
     return max(1, int(1_000_000 * max_age))
 
 
-def _first(values):
-    """The value of a single command; an error is raised."""
-    if isinstance(values[0], Exception):
-        raise values[0]
-    return values[0]
+def _told(value):
+    """The value; an error is raised."""
+    if isinstance(value, Exception):
+        raise value
+    return value
 
 
-def _is_ok(values):
+def _is_ok(value):
     """True where a SET was done; None where its condition did not hold."""
-    return True if _first(values) in ("OK", b"OK") else _first(values)
+    return True if _told(value) in ("OK", b"OK") else value
 
 
-def _is_one(values):
-    return _first(values) == 1
+def _is_one(value):
+    return _told(value) == 1
+
+
+def _is_pong(value):
+    return _told(value) in ("PONG", b"PONG")
 
 
 def _strings(values):
     """The values of keys as MGET tells them, to which a key of another type is None."""
-    return [None if is_wrong_type(value) else _first([value]) for value in values]
+    return [None if is_wrong_type(value) else _told(value) for value in values]
 
 
 def is_wrong_type(value):
@@ -96,43 +100,48 @@ def _listed(name, others):
 class Commands:
     """Commands as methods, by redis-py's names, words and answers.
 
-    `_run` takes commands, each with its words, and what makes the method's answer of their values.
+    `_run` takes a command's words, and what makes the method's answer of its value; `_run_all`
+    takes commands, and what makes the answer of their values.
     """
+
+    def _read(self, name, key):
+        """A read that has a key alone."""
+        return self._run((name, key))
 
     def execute(self, *words):
         """The answer to any command. Reads of strings and hashes are answered from the cache."""
-        return self._run([words], _first)
+        return self._run(words)
 
     execute_command = execute
 
     def get(self, name):
         """The value of a key, from the cache where it is held."""
-        return self._run([("GET", name)], _first)
+        return self._read("GET", name)
 
     def mget(self, keys, *args):
         """The values of keys, each from the cache where it is held; the others in one round trip,
         and so not of one moment."""
-        return self._run([("GET", name) for name in _listed(keys, args)], _strings)
+        return self._run_all([("GET", name) for name in _listed(keys, args)], _strings)
 
     def strlen(self, name):
-        return self._run([("STRLEN", name)], _first)
+        return self._read("STRLEN", name)
 
     def hget(self, name, key):
-        return self._run([("HGET", name, key)], _first)
+        return self._run(("HGET", name, key))
 
     def hmget(self, name, keys, *args):
-        return self._run([("HMGET", name, *_listed(keys, args))], _first)
+        return self._run(("HMGET", name, *_listed(keys, args)))
 
     def hgetall(self, name):
         """The fields of a hash with their values, a dict."""
-        return self._run([("HGETALL", name)], _first)
+        return self._read("HGETALL", name)
 
     def hexists(self, name, key):
-        return self._run([("HEXISTS", name, key)], _is_one)
+        return self._run(("HEXISTS", name, key), _is_one)
 
     def exists(self, *names):
         """How many of the keys there are; of one key from the cache where it is held."""
-        return self._run([("EXISTS", *names)], _first)
+        return self._run(("EXISTS", *names))
 
     def set(self, name, value, ex=None, px=None, nx=False, xx=False, keepttl=False):
         """True where it was set; None where nx or xx did not hold."""
@@ -140,35 +149,38 @@ class Commands:
         words += [] if ex is None else ["EX", ex]
         words += [] if px is None else ["PX", px]
         words += ["KEEPTTL"] * bool(keepttl) + ["NX"] * bool(nx) + ["XX"] * bool(xx)
-        return self._run([words], _is_ok)
+        return self._run(words, _is_ok)
 
     def hset(self, name, key=None, value=None, mapping=None):
         """How many fields were added."""
         pairs = [] if key is None else [key, value]
         for field in mapping or {}:
             pairs += [field, mapping[field]]
-        return self._run([("HSET", name, *pairs)], _first)
+        return self._run(("HSET", name, *pairs))
 
     def delete(self, *names):
         """How many keys were deleted."""
-        return self._run([("DEL", *names)], _first)
+        return self._run(("DEL", *names))
 
     def expire(self, name, time):
         """Whether there is such a key, which then has so many seconds to live."""
-        return self._run([("EXPIRE", name, time)], _is_one)
+        return self._run(("EXPIRE", name, time), _is_one)
 
     def ttl(self, name):
-        return self._run([("TTL", name)], _first)
+        return self._run(("TTL", name))
 
     def ping(self):
-        return self._run([("PING",)], lambda values: _first(values) in ("PONG", b"PONG"))
+        return self._run(("PING",), _is_pong)
 
 
 class Connection(Commands):
-    """A connection whose reads are cached, of which `_values` gives the values of commands."""
+    """A connection whose reads are cached. `_answer` gives the bytes of the answer to a request, or
+    why it was refused, and `_answers` those of several."""
 
     def __init__(self, host="localhost", port=6379, capacity=10_000, **settings):
         self._settings = Settings(host, port, capacity, **settings)
+        self._encoding = self._settings.encoding
+        self._word_encoding = self._encoding or "utf-8"
         self._process = os.getpid()
 
     def pipeline(self, transaction=False):
@@ -178,10 +190,26 @@ class Connection(Commands):
             raise ValueError("there are no transactions: MULTI is refused")
         return Pipeline(self)
 
-    def _run(self, commands, made):
+    def _read(self, name, key):
+        # most hits come this way, so it is a short one
+        answer = self._answer(request_to_read(name, key, self._word_encoding))
+        return _told(value_of(answer, self._encoding))
+
+    def _run(self, words, made=_told):
+        answer = self._answer(request_of(words, self._word_encoding))
+        return made(value_of(answer, self._encoding))
+
+    def _run_all(self, commands, made):
         return made(self._values(commands))
 
     def _values(self, commands):
+        answers = self._answers([request_of(words, self._word_encoding) for words in commands])
+        return [value_of(answer, self._encoding) for answer in answers]
+
+    def _answer(self, request):
+        raise NotImplementedError
+
+    def _answers(self, requests):
         raise NotImplementedError
 
     def __enter__(self):
@@ -205,8 +233,11 @@ class Pipeline(Commands):
         self._connection = connection
         self._waiting = []
 
-    def _run(self, commands, made):
-        self._waiting.append((list(commands), made))
+    def _run(self, words, made=_told):
+        return self._run_all([words], lambda values: made(values[0]))
+
+    def _run_all(self, commands, made):
+        self._waiting.append((commands, made))
         return self
 
     def execute(self, *words, raise_on_error=True):

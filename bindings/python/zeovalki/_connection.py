@@ -1,12 +1,13 @@
 """A connection of one thread."""
 
+import math
 import os
 import time
 
 from ._commands import Connection
 from ._library import (BYTES, CONTROL, DONE, HIT, NO_MEMORY, NO_QUERY, NO_REQUEST, NOT_READY,
                        NOT_YET, QUIET, REPLY, SENT)
-from ._resp import is_passing, request_of, value_of
+from ._resp import is_passing, request_of
 
 PING = request_of(("PING",))
 
@@ -60,13 +61,11 @@ class CachedRedis(Connection):
         elif self._link is not None:
             self._link.close()
 
-    def _values(self, commands):
-        encoding = self._settings.encoding
-        requests = [request_of(words, encoding or "utf-8") for words in commands]
-        answers = self._alone(self._answered, requests)
-        return [
-            it if isinstance(it, Exception) else value_of(it, encoding) for it in answers
-        ]
+    def _answer(self, request):
+        return self._alone(self._answered, request)
+
+    def _answers(self, requests):
+        return self._alone(self._all_answered, requests)
 
     def _alone(self, work, *arguments):
         """A call from its begin to its end. What one left that did not come to its end goes."""
@@ -96,7 +95,7 @@ class CachedRedis(Connection):
         self._counts = summed(self._counts, self._client)
         self._client = self._settings.client()
         self._link = self._settings.address.open()
-        self._read_at = time.monotonic()
+        self._note_sound()
         self._counts["connections"] += 1
 
     def _disconnect(self):
@@ -106,10 +105,18 @@ class CachedRedis(Connection):
         if self._client is not None:
             self._client.end()
 
-    def _answered(self, requests):
-        """The bytes of each answer, or why a command was refused, of which nothing was sent."""
+    def _answered(self, request):
+        """The bytes of the answer, or why a command was refused, of which nothing was sent."""
         self._prepare()
-        answers = [self._asked(request) for request in requests]
+        answer = self._asked(request)
+        return self._received([answer])[0] if isinstance(answer, _Number) else answer
+
+    def _all_answered(self, requests):
+        self._prepare()
+        return self._received([self._asked(request) for request in requests])
+
+    def _received(self, answers):
+        """The replies in the place of the numbers of commands, which are sent."""
         if any(isinstance(answer, _Number) for answer in answers):
             self._send()
         answers = [
@@ -123,7 +130,7 @@ class CachedRedis(Connection):
         """A connection whose messages were processed."""
         while self._link is not None and (data := self._link.received()) is not None:
             self._feed(data)
-        if self._link is not None and self._is_silent():
+        if self._link is not None and time.monotonic() >= self._silent_at:
             self._check_health()
         if self._link is None:
             self._connect()
@@ -132,25 +139,26 @@ class CachedRedis(Connection):
 
     def _asked(self, request):
         """What is held; or the number of a command that goes to the server."""
-        status, is_query = self._taken(request)
+        status = self._client.ask(request)
+        if status == HIT:
+            return self._client.answer()
+        if status == NOT_READY:
+            status = self._taken(self._client.ask, request)
+        if status == NO_QUERY:
+            status = self._taken(self._client.send, request)
+            self._counts["commands"] += status == SENT
         if status in (CONTROL, NO_REQUEST):
             return refusal(status)
-        if status not in (HIT, SENT):
+        if status != SENT:
             raise refusal(status)
-        self._counts["commands"] += not is_query
-        return self._client.answer() if status == HIT else _Number(self._client.number())
+        return _Number(self._client.number())
 
-    def _taken(self, request):
-        """What the client tells of a command, and whether it can be held: it is asked, or sent."""
-        while True:
-            status = self._client.ask(request)
-            is_query = status != NO_QUERY
-            if not is_query:
-                status = self._client.send(request)
-            if status != NOT_READY:
-                return status, is_query
+    def _taken(self, work, request):
+        """What the client tells of a command, once it is set up."""
+        while (status := work(request)) == NOT_READY:
             self._send()
             self._feed(self._link.receive(self._settings.wait()))
+        return status
 
     def _reply(self, number, seconds=None):
         while (status := self._client.poll(number)) == NOT_YET:
@@ -166,21 +174,21 @@ class CachedRedis(Connection):
             raise refusal(status)
 
     def _feed(self, data):
-        self._read_at = time.monotonic()
+        self._note_sound()
         if not data:
             raise ConnectionResetError("the server has ended the connection")
         if self._client.feed(data) != DONE:
             raise refusal(NO_MEMORY)
 
-    def _is_silent(self):
+    def _note_sound(self):
+        """The server was heard: until when it need not be asked whether it is there."""
         interval = self._settings.interval
-        return interval is not None and time.monotonic() >= self._read_at + interval
+        self._silent_at = math.inf if interval is None else time.monotonic() + interval
 
     def _check_health(self):
         """A PING is answered, or the connection ends."""
         try:
-            status, _ = self._taken(PING)
-            if status == SENT:
+            if self._taken(self._client.send, PING) == SENT:
                 number = self._client.number()
                 self._send()
                 self._reply(number, self._settings.wait())

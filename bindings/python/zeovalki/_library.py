@@ -61,7 +61,7 @@ def _load():
         "ended": (client,),
         "number": (client,),
         "count": (client, number),
-        "answer": (client, ctypes.c_char_p, size),
+        "answer": (client, ctypes.c_void_p, size),
         "close": (client,),
     }.items():
         function = getattr(library, f"zeovalki_{name}")
@@ -70,6 +70,12 @@ def _load():
     library.rattle_dealloc.argtypes = (client,)
     library.rattle_dealloc.restype = None
     return library
+
+
+def _room(size):
+    """Room for an answer, and what each call is told of it."""
+    room = ctypes.create_string_buffer(size)
+    return room, ctypes.c_void_p(ctypes.addressof(room)), ctypes.c_size_t(size)
 
 
 def _within(name, number, least, most):
@@ -108,7 +114,7 @@ class Client:
         )
         if Client.library is None:
             Client.library = _load()
-        self._room = ctypes.create_string_buffer(4096)
+        self._room = _room(4096)
         words = b"".join(b"$%d\r\n%b\r\n" % (len(prefix), prefix) for prefix in prefixes)
         written = b"*%d\r\n%b" % (len(prefixes), words) if prefixes else b""
         made = ctypes.c_void_p()
@@ -119,6 +125,8 @@ class Client:
         if status != DONE:
             raise ValueError(f"an option that the library does not serve, by its status {status}")
         self._client = made
+        # a hit calls these two, and finds them here in less time
+        self._ask, self._answer = self.library.zeovalki_ask, self.library.zeovalki_answer
 
     def feed(self, data):
         return self.library.zeovalki_feed(self._client, data, len(data))
@@ -127,7 +135,7 @@ class Client:
         return self.library.zeovalki_take_out(self._client, most)
 
     def ask(self, request):
-        return self.library.zeovalki_ask(self._client, request, len(request))
+        return self._ask(self._client, request, len(request))
 
     def send(self, request):
         return self.library.zeovalki_send(self._client, request, len(request))
@@ -167,11 +175,13 @@ class Client:
 
     def answer(self):
         """The bytes that the last call told."""
-        size = self.library.zeovalki_answer(self._client, self._room, len(self._room))
-        if size > len(self._room):
-            self._room = ctypes.create_string_buffer(2 * size)
-            self.library.zeovalki_answer(self._client, self._room, len(self._room))
-        return ctypes.string_at(self._room, size)
+        room, start, most = self._room
+        size = self._answer(self._client, start, most)
+        if size > len(room):
+            # at once, since an interrupt may come between
+            self._room = room, start, most = _room(2 * size)
+            self._answer(self._client, start, most)
+        return room[:size]
 
     def close(self):
         """What it has is let go; a later call tells that its link has ended."""

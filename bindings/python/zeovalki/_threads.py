@@ -9,7 +9,7 @@ from ._commands import Connection
 from ._connection import COUNTED, PING, refusal, summed
 from ._library import (BYTES, CONTROL, DONE, HIT, NO_MEMORY, NO_QUERY, NO_REQUEST, NOT_READY,
                        NOT_YET, QUIET, REPLY, SENT)
-from ._resp import is_passing, request_of, value_of
+from ._resp import is_passing
 
 
 class ThreadSafeCachedRedis(Connection):
@@ -61,17 +61,15 @@ class ThreadSafeCachedRedis(Connection):
         if getattr(self, "_session", None) is not None and os.getpid() == self._process:
             self._session.give_up()
 
-    def _values(self, commands):
-        encoding = self._settings.encoding
-        requests = [request_of(words, encoding or "utf-8") for words in commands]
-        if os.getpid() != self._process:
-            raise RuntimeError("a connection can't be used in a forked child: make another one")
-        answers = self._on_session(_Session.answered, requests)
-        return [
-            it if isinstance(it, Exception) else value_of(it, encoding) for it in answers
-        ]
+    def _answer(self, request):
+        return self._on_session(_Session.answered, request)
+
+    def _answers(self, requests):
+        return self._on_session(_Session.all_answered, requests)
 
     def _on_session(self, work, *arguments):
+        if os.getpid() != self._process:
+            raise RuntimeError("a connection can't be used in a forked child: make another one")
         session = None
         try:
             session = self._current()
@@ -141,6 +139,7 @@ class _Session:
 
     def __init__(self, settings):
         self._settings = settings
+        self._is_aged = settings.is_aged
         self._lock = threading.RLock()
         self._sending = threading.RLock()
         # by number, as they were sent
@@ -175,32 +174,46 @@ class _Session:
         let_go(self._lock)
         let_go(self._sending)
 
-    def answered(self, requests):
-        """The bytes of each answer, or why a command was refused, of which nothing was sent."""
-        seconds = self._settings.timeout
+    def answered(self, request):
+        """The bytes of the answer, or why a command was refused, of which nothing was sent."""
         with self._lock:
-            if self._settings.is_aged:
-                self._client.time(time.monotonic_ns() // 1000)
+            if self._is_aged:
+                self._tell_time()
+            answer = self._asked(request)
+        return self._received([answer])[0] if isinstance(answer, _Awaited) else answer
+
+    def all_answered(self, requests):
+        with self._lock:
+            if self._is_aged:
+                self._tell_time()
             answers = [self._asked(request) for request in requests]
+        return self._received(answers)
+
+    def _received(self, answers):
+        """The replies in the place of those that are awaited, whose commands are sent."""
         if not any(isinstance(answer, _Awaited) for answer in answers):
             return answers
         self._send()
+        seconds = self._settings.timeout
         end = None if seconds is None else time.monotonic() + seconds
         return [it.take(end) if isinstance(it, _Awaited) else it for it in answers]
+
+    def _tell_time(self):
+        self._client.time(time.monotonic_ns() // 1000)
 
     def _asked(self, request):
         """What is held; or a reply that is awaited. Of who holds the lock."""
         status = self._client.ask(request)
+        if status == HIT:
+            return self._client.answer()
         if status == NO_QUERY:
             status = self._client.send(request)
             self._commands += status == SENT
         if status in (CONTROL, NO_REQUEST):
             return refusal(status)
-        if status not in (HIT, SENT):
+        if status != SENT:
             self.serves = False
             raise refusal(status)
-        if status == HIT:
-            return self._client.answer()
         awaited = _Awaited()
         self._waiting.append((self._client.number(), awaited))
         return awaited
