@@ -29,7 +29,7 @@ abbrev changed_back : Change → Space → Space
 changed_back Nothing space = space
 changed_back (Keys kept due seat) space =
     put_back (priors_of due.items) (put_back (priors_of kept.items) space)
-changed_back (All old) space = old
+changed_back (All old) space = old.value
 
 -- the keyspace once the run is taken back
 abbrev pub taken_back : Undo → Space → Space

@@ -46,7 +46,7 @@ impl Model for Database {
 pub(crate) enum Change {
     Nothing,
     Keys(Vec<Prior>, Vec<Prior>, Box<Waiting>),
-    All(Database),
+    All(Box<Database>),
 }
 
 /// How a run is taken back.
@@ -138,7 +138,7 @@ impl Database {
             Change::Keys(kept, due, place) => {
                 push_waiting(&mut self.parts.waiting, kept, due, place);
             }
-            Change::All(old) => *self = old,
+            Change::All(old) => *self = Box::into_inner(old),
         }
     }
 

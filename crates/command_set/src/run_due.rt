@@ -176,10 +176,12 @@ pub(crate) fn run_flush(
     ensures step { InStep parts.new.index parts.new.space }
 {
     let expired = due_keys(alloc, &parts.index, moment)?;
+    let mut kept = Box::new(alloc, Database::new(alloc))?;
     let old = mem::replace(parts, Parts::new(alloc));
     match run_data(alloc, &mut parts.space, &mut parts.index, command, moment) {
         Ok(done) => {
-            let change = Change::All(Database { alloc, parts: old });
+            *kept = Database { alloc, parts: old };
+            let change = Change::All(kept);
             let undo = Undo { change };
             Ok(Turned {
                 expired,

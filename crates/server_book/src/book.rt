@@ -1,6 +1,6 @@
 //! The server's state. A turn answers and adds what the definition of a step gives on the history.
 ghost use Rattle.std.specs.Prelude.{◌≡◌, ◌<◌, true, IfOk, OnErr, length, option_map};
-ghost use Rattle.std.specs.Prelude.{reverse, take};
+ghost use Rattle.std.specs.Prelude.{None, Some, reverse, take};
 ghost use Rattle.command_words.specs.Reading.{IsReading};
 ghost use Rattle.command_words.specs.Words.{reading};
 ghost use Rattle.serial_model.specs.declared.history.BookCall.TheVariants as call;
@@ -24,6 +24,7 @@ use resp_value::{NoMemory, Value, Words};
 use serial_model::{BookCall, BookRefusal, BookReply, Effect, Entry, EntryKind, Limits, Post};
 use std::alloc::Global;
 use std::marker::Model;
+use std::mem;
 
 /// The server's state: its history, its keys and its connections. Contracts see its limits, its
 /// history, what the last turn sent, whom it dropped, and the effect of the entry that it added.
@@ -106,6 +107,23 @@ fn tick_effect(alloc: Global, entry: u64, expired: Words) -> Effect
         signalled: Signalled::Keys(Words::new(alloc)),
         kind: EntryKind::Tick,
     }
+}
+
+// A function that lets a command or an effect go has room for each of its forms, which is filled
+// with zeros whenever the function begins. So one function lets go of each, at one place.
+fn let_go(_read: Result<Command, WordFault>) {}
+
+fn clear(effect: &mut Option<Effect>)
+    ensures { effect.new ≡ None }
+{
+    *effect = None;
+}
+
+// A turn begins without an effect, so there is none to let go.
+fn keep(effect: &mut Option<Effect>, new: Effect)
+    ensures { effect.new ≡ Some new }
+{
+    mem::forget(mem::replace(effect, Some(new)));
 }
 
 impl Book {
@@ -272,7 +290,8 @@ impl Book {
         let entry = self.log.next();
         self.stores.connections.admit()?;
         self.log.push(Entry::Admit { id });
-        self.effect = Some(bare_effect(self.stores.alloc, entry, id, EntryKind::Admit));
+        let effect = bare_effect(self.stores.alloc, entry, id, EntryKind::Admit);
+        keep(&mut self.effect, effect);
         Ok(BookReply::Admitted { entry, id })
     }
 
@@ -301,7 +320,10 @@ impl Book {
             expired,
             plan,
             undo,
-        } = play(&mut self.stores.space, by, mode, &words, read, moment)?;
+        } = match play(&mut self.stores.space, by, mode, &words, read, moment) {
+            Ok(played) => played,
+            Err(_) => return Err(NoMemory),
+        };
         match self.stores.send_run(entry, id, expired.as_slice(), &plan) {
             Ok(()) => self.stores.space.keep_place(undo),
             Err(_) => {
@@ -329,24 +351,37 @@ impl Book {
         ensures ok { IfOk result (λ reply. IsTurn self.old (call.Run id words now) reply self.new) }
         ensures err { OnErr result (self.new ≡ self.old) }
     {
-        let read = read_within(self.stores.alloc, &words)?;
+        let read = match read_within(self.stores.alloc, &words) {
+            Ok(read) => read,
+            Err(_) => return Err(NoMemory),
+        };
         let runs = runs(self.stores.connections.mode(id), &read);
-        let RunDone {
-            entry,
-            expired,
-            reply,
-            signalled,
-        } = self.run_read(id, words, &read, now)?;
-        self.effect = Some(Effect {
-            entry,
-            id,
-            command: command_of(read, runs),
-            expired,
-            reply,
-            signalled,
-            kind: EntryKind::Run,
-        });
-        Ok(BookReply::Ran { entry })
+        match self.run_read(id, words, &read, now) {
+            Ok(
+                RunDone {
+                    entry,
+                    expired,
+                    reply,
+                    signalled,
+                },
+            ) => {
+                let effect = Effect {
+                    entry,
+                    id,
+                    command: command_of(read, runs),
+                    expired,
+                    reply,
+                    signalled,
+                    kind: EntryKind::Run,
+                };
+                keep(&mut self.effect, effect);
+                Ok(BookReply::Ran { entry })
+            }
+            Err(_) => {
+                let_go(read);
+                Err(NoMemory)
+            }
+        }
     }
 
     // Where no key is due, nothing was taken out.
@@ -374,7 +409,8 @@ impl Book {
             .end_all(entry, Ends::by_tick(self.limits.out_max));
         self.log.push(Entry::Tick { moment });
         self.log.release(self.stores.connections.drops().len());
-        self.effect = Some(tick_effect(self.stores.alloc, entry, keys));
+        let effect = tick_effect(self.stores.alloc, entry, keys);
+        keep(&mut self.effect, effect);
         Ok(BookReply::Ticked { entry })
     }
 
@@ -391,8 +427,8 @@ impl Book {
         self.log.push(Entry::Take { id, max: most });
         self.stores.connections.advance(id, most as usize);
         let given = bytes.as_slice().len() as u64;
-        let kind = EntryKind::Take(given);
-        self.effect = Some(bare_effect(self.stores.alloc, entry, id, kind));
+        let effect = bare_effect(self.stores.alloc, entry, id, EntryKind::Take(given));
+        keep(&mut self.effect, effect);
         Ok(BookReply::Bytes { entry, bytes })
     }
 
@@ -406,7 +442,8 @@ impl Book {
         self.log.push(Entry::Close { id });
         self.stores.connections.close(entry, id);
         self.stores.forget(id);
-        self.effect = Some(bare_effect(self.stores.alloc, entry, id, EntryKind::Close));
+        let effect = bare_effect(self.stores.alloc, entry, id, EntryKind::Close);
+        keep(&mut self.effect, effect);
         BookReply::Closed { entry }
     }
 
@@ -420,7 +457,7 @@ impl Book {
         ensures effect { self.new.effect ≡ effect_after self.old.limits result self.new.past }
     {
         self.stores.connections.clear_posts();
-        self.effect = None;
+        clear(&mut self.effect);
         if let Some(reply) = self.refusal(&call) {
             return reply;
         }

@@ -78,8 +78,10 @@ pub fn play(
             return play_data(space, by, mode, command, moment);
         }
     }
-    let plan = plan_words(by, mode, words, read)?;
-    play_expiry(space, plan, moment)
+    match plan_words(by, mode, words, read) {
+        Ok(plan) => play_expiry(space, plan, moment),
+        Err(_) => Err(NoMemory),
+    }
 }
 
 // The plan of words that are no data command, or that their mode does not allow.
@@ -214,7 +216,10 @@ fn play_data(
         expired,
         done,
         undo,
-    } = space.run_due(command, moment)?;
+    } = match space.run_due(command, moment) {
+        Ok(turned) => turned,
+        Err(_) => return Err(NoMemory),
+    };
     let deed = deed_of(mode, reads, done.signalled);
     let plan = Plan {
         reply: Some(done.reply),

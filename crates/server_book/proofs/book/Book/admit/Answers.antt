@@ -65,4 +65,4 @@ returns-clause-ok c =
     (ap (λ (s : ConnectionsState). s.drops) c.in_ok-admit.ensures.ok
     ∙ ap (λ (b : BookState). b.drops) c.self.view_is ∙ c.requires.none.drops
     ∙ dropped_admit l past id)
-    (ap Some c.bare_effect.ensures ∙ effect_admit l past id n number)
+    (c.keep.ensures ∙ ap Some c.bare_effect-effect.ensures ∙ effect_admit l past id n number)

@@ -81,4 +81,5 @@ returns c =
     (ap (λ (s : ConnectionsState). s.drops) (c.forget.ensures.connections ∙ c.close.ensures)
     ∙ ap (λ (b : BookState). b.drops) c.self.view_is ∙ c.requires.none.drops
     ∙ dropped_close l past id)
-    (ap Some c.bare_effect.ensures ∙ effect_close l past id n c.next-entry.ensures)
+    (c.keep.ensures ∙ ap Some c.bare_effect-effect.ensures
+    ∙ effect_close l past id n c.next-entry.ensures)

@@ -1,4 +1,5 @@
-use Rattle.std.proofs.Common.{◌≡◌, sym, ap, subst, ◌∙◌, Some}
+use Rattle.std.proofs.Common.{◌≡◌, sym, ap, subst, ◌∙◌, Some, Option}
+use Rattle.serial_model.specs.declared.effect.Effect.{Effect}
 use Rattle.serial_model.specs.declared.effect.EntryKind.TheVariants as kind
 use Rattle.serial_model.specs.declared.history.BookCall.TheVariants.{Run}
 use Rattle.serial_model.specs.declared.history.BookReply.TheVariants.{Ran}
@@ -17,9 +18,9 @@ mode-requires c =
     opened i.limits i.log.past i.stores.space i.stores.table i.stores.prefixes
     i.stores.connections.items c.self.invariant.agrees c.args.id acc
 
-pub returns-clause-ok : goal.returns-clause-ok
-returns-clause-ok c =
-    let done = c.in_ok-entry.field-0 in
+pub returns-in-Ok-run_read-clause-ok : goal.returns-in-Ok-run_read-clause-ok
+returns-in-Ok-run_read-clause-ok c =
+    let done = c.in-Ok-run_read.field-0 in
     let command = c.command_of.result in
     let id = c.args.id in
     let i = c.self.inside in
@@ -32,11 +33,11 @@ returns-clause-ok c =
     i.stores.connections.items c.self.invariant.agrees id acc
     ∙ ap (λ (b : BookState). (state b.limits b.past).modes id) c.self.view_is in
     let told = run_told c.args.self.now c.run_read.new.self id c.args.now c.args.words done command
-    c.in_ok-entry.ensures.ok
+    c.in-Ok-run_read.ensures.ok
     (c.command_of.ensures mode c.runs-runs.ensures
-    ∙ ap (λ r. command_of mode (served r)) c.in_ok-read.ensures
+    ∙ ap (λ r. command_of mode (served r)) c.in-Ok.ensures
     ∙ ap (λ x. command_of x (served (reading c.args.words))) who) in
-    subst (λ (b : BookState).
+    let turned = subst (λ (b : BookState).
     IsTurn c.args.self.now (Run id c.args.words c.args.now) (Ran done.entry) (record b {
       effect = Some (record {
         entry = done.entry;
@@ -47,4 +48,13 @@ returns-clause-ok c =
         signalled = done.signalled;
         kind = kind.Run;
       });
-    })) (sym c.self-2.view_is) told
+    })) (sym c.self-2.view_is) told in
+    let i-2 = c.self-2.inside in
+    subst (λ (e : Option Effect). IsTurn c.args.self.now (Run id c.args.words c.args.now)
+    (Ran done.entry) (record {
+      limits = i-2.limits;
+      past = i-2.log.past;
+      posts = i-2.stores.connections.posts;
+      drops = i-2.stores.connections.drops;
+      effect = e;
+    })) (sym c.keep.ensures) turned

@@ -154,7 +154,7 @@ finish-signalled-requires-clause-open c =
     let n = c.next-entry.result in
     let number : n ≡ length past + 1 =
     c.next-entry.ensures ∙ ap (λ p. length p + 1) c.reserve.ensures.past in
-    let p = c.in_ok-expired.field-0 in
+    let p = c.in-Ok.played in
     let plan = p.plan in
     let by = c.in_ok-by.by in
     let mode = c.mode-mode.result.now in
@@ -178,7 +178,7 @@ finish-signalled-requires-clause-open c =
     ∙ ap (λ (s : ConnectionsState). is_broken_by (due_keys m space) keys.rows rs s.items id)
     (sym ids)) in
     let runs = plan_runs l past words m id p space c.play.new.space by mode
-    c.in_ok-expired.ensures who k.space_is in
+    c.in-Ok.ensures who k.space_is in
     let gone = c.as_slice.result.now in
     let gone_is = c.as_slice.ensures ∙ runs.0 in
     let none : st.connections ≡ record { items = cs; posts = []; lost = []; drops = [] } =
@@ -196,7 +196,7 @@ finish-signalled-requires-clause-open c =
       table = keys;
       prefixes = rs;
     } in
-    let sent = c.in-Ok.ensures.sent ∙ ap (run_sendings run) none in
+    let sent = c.in-Ok-send_run.ensures.sent ∙ ap (run_sendings run) none in
     subst (λ (s : ConnectionsState). IsOpen s.items id) (sym sent)
     (on_after l past space keys rs cs k m gone gone_is n id words acc plan number runs.1 runs.3
     runs.4 runs.5 runs.6 runs.7)
@@ -226,7 +226,7 @@ finish-signalled-requires-clause-number c =
     let n = c.next-entry.result in
     let number : n ≡ length past + 1 =
     c.next-entry.ensures ∙ ap (λ p. length p + 1) c.reserve.ensures.past in
-    let p = c.in_ok-expired.field-0 in
+    let p = c.in-Ok.played in
     let plan = p.plan in
     let by = c.in_ok-by.by in
     let mode = c.mode-mode.result.now in
@@ -250,7 +250,7 @@ finish-signalled-requires-clause-number c =
     ∙ ap (λ (s : ConnectionsState). is_broken_by (due_keys m space) keys.rows rs s.items id)
     (sym ids)) in
     let runs = plan_runs l past words m id p space c.play.new.space by mode
-    c.in_ok-expired.ensures who k.space_is in
+    c.in-Ok.ensures who k.space_is in
     let gone = c.as_slice.result.now in
     let gone_is = c.as_slice.ensures ∙ runs.0 in
     let none : st.connections ≡ record { items = cs; posts = []; lost = []; drops = [] } =
@@ -268,7 +268,7 @@ finish-signalled-requires-clause-number c =
       table = keys;
       prefixes = rs;
     } in
-    let sent = c.in-Ok.ensures.sent ∙ ap (run_sendings run) none in
+    let sent = c.in-Ok-send_run.ensures.sent ∙ ap (run_sendings run) none in
     subst HasNumber
     (sym (ap (λ (s : ConnectionsState). mode_by plan.deed (connection_at s.items id).mode) sent
     ∙ ap (mode_by plan.deed)
@@ -306,7 +306,7 @@ finish-signalled-requires-clause-posted c =
     let n = c.next-entry.result in
     let number : n ≡ length past + 1 =
     c.next-entry.ensures ∙ ap (λ p. length p + 1) c.reserve.ensures.past in
-    let p = c.in_ok-expired.field-0 in
+    let p = c.in-Ok.played in
     let plan = p.plan in
     let by = c.in_ok-by.by in
     let mode = c.mode-mode.result.now in
@@ -330,7 +330,7 @@ finish-signalled-requires-clause-posted c =
     ∙ ap (λ (s : ConnectionsState). is_broken_by (due_keys m space) keys.rows rs s.items id)
     (sym ids)) in
     let runs = plan_runs l past words m id p space c.play.new.space by mode
-    c.in_ok-expired.ensures who k.space_is in
+    c.in-Ok.ensures who k.space_is in
     let gone = c.as_slice.result.now in
     let gone_is = c.as_slice.ensures ∙ runs.0 in
     let none : st.connections ≡ record { items = cs; posts = []; lost = []; drops = [] } =
@@ -348,7 +348,7 @@ finish-signalled-requires-clause-posted c =
       table = keys;
       prefixes = rs;
     } in
-    let sent = c.in-Ok.ensures.sent ∙ ap (run_sendings run) none in
+    let sent = c.in-Ok-send_run.ensures.sent ∙ ap (run_sendings run) none in
     posted_as l.out_max c.ends-ends.result.limit _
     (settled id plan.deed c.send_run.new.self.connections)
     (ap (λ (b : Ends). b.limit) c.ends-ends.ensures) (ap (settled id plan.deed) sent)
@@ -380,7 +380,7 @@ release-requires c =
     let n = c.next-entry.result in
     let number : n ≡ length past + 1 =
     c.next-entry.ensures ∙ ap (λ p. length p + 1) c.reserve.ensures.past in
-    let p = c.in_ok-expired.field-0 in
+    let p = c.in-Ok.played in
     let plan = p.plan in
     let by = c.in_ok-by.by in
     let mode = c.mode-mode.result.now in
@@ -404,7 +404,7 @@ release-requires c =
     ∙ ap (λ (s : ConnectionsState). is_broken_by (due_keys m space) keys.rows rs s.items id)
     (sym ids)) in
     let runs = plan_runs l past words m id p space c.play.new.space by mode
-    c.in_ok-expired.ensures who k.space_is in
+    c.in-Ok.ensures who k.space_is in
     let gone = c.as_slice.result.now in
     let gone_is = c.as_slice.ensures ∙ runs.0 in
     let none : st.connections ≡ record { items = cs; posts = []; lost = []; drops = [] } =
@@ -422,7 +422,7 @@ release-requires c =
       table = keys;
       prefixes = rs;
     } in
-    let sent = c.in-Ok.ensures.sent ∙ ap (run_sendings run) none in
+    let sent = c.in-Ok-send_run.ensures.sent ∙ ap (run_sendings run) none in
     let by = ends_of id plan.deed l.out_max in
     let settles = ap (settled id plan.deed) sent in
     let done = c.finish-signalled.new.self.connections in
@@ -467,7 +467,7 @@ invariant_of-self-2 c =
     let n = c.next-entry.result in
     let number : n ≡ length past + 1 =
     c.next-entry.ensures ∙ ap (λ p. length p + 1) c.reserve.ensures.past in
-    let p = c.in_ok-expired.field-0 in
+    let p = c.in-Ok.played in
     let plan = p.plan in
     let by = c.in_ok-by.by in
     let mode = c.mode-mode.result.now in
@@ -491,7 +491,7 @@ invariant_of-self-2 c =
     ∙ ap (λ (s : ConnectionsState). is_broken_by (due_keys m space) keys.rows rs s.items id)
     (sym ids)) in
     let runs = plan_runs l past words m id p space c.play.new.space by mode
-    c.in_ok-expired.ensures who k.space_is in
+    c.in-Ok.ensures who k.space_is in
     let gone = c.as_slice.result.now in
     let gone_is = c.as_slice.ensures ∙ runs.0 in
     let none : st.connections ≡ record { items = cs; posts = []; lost = []; drops = [] } =
@@ -509,7 +509,7 @@ invariant_of-self-2 c =
       table = keys;
       prefixes = rs;
     } in
-    let sent = c.in-Ok.ensures.sent ∙ ap (run_sendings run) none in
+    let sent = c.in-Ok-send_run.ensures.sent ∙ ap (run_sendings run) none in
     let by = ends_of id plan.deed l.out_max in
     let settles = ap (settled id plan.deed) sent in
     let done = c.finish-signalled.new.self.connections in
@@ -528,14 +528,15 @@ invariant_of-self-2 c =
     let items = ap (λ (s : ConnectionsState). s.items) settles in
     let agreed = agrees_as l (e ∷ past) new.space _ new.table _ new.prefixes _ new.connections.items
     (rows_as by c.ends-ends.result _ (settled id plan.deed mid.connections).items _ mid.table
-    new.table c.ends-ends.ensures items c.in-Ok.ensures.table c.finish-signalled.ensures.table)
+    new.table c.ends-ends.ensures items c.in-Ok-send_run.ensures.table
+    c.finish-signalled.ensures.table)
     (prefixes_as by c.ends-ends.result _ (settled id plan.deed mid.connections).items _ mid.prefixes
-    new.prefixes c.ends-ends.ensures items c.in-Ok.ensures.prefixes
+    new.prefixes c.ends-ends.ensures items c.in-Ok-send_run.ensures.prefixes
     c.finish-signalled.ensures.prefixes) refl
     (agrees_run l past space keys rs cs k m gone gone_is n id words acc plan number runs.1 runs.3
     runs.4 runs.5 runs.6 runs.7 new.space done
     (omega (arith, c.max-moment.ensures, c.moment.ensures))
-    (c.finish-signalled.ensures.space ∙ c.keep_place.ensures ∙ c.in-Ok.ensures.space
+    (c.finish-signalled.ensures.space ∙ c.keep_place.ensures ∙ c.in-Ok-send_run.ensures.space
     ∙ runs.2) ended) in
     let now_stopped : c.if-self.self ≡ (i.stopped || c.ends-ends.result.stops) =
     elim c.if-self.branch [
@@ -590,7 +591,7 @@ returns-clause-ok c =
     let n = c.next-entry.result in
     let number : n ≡ length past + 1 =
     c.next-entry.ensures ∙ ap (λ p. length p + 1) c.reserve.ensures.past in
-    let p = c.in_ok-expired.field-0 in
+    let p = c.in-Ok.played in
     let plan = p.plan in
     let by = c.in_ok-by.by in
     let mode = c.mode-mode.result.now in
@@ -614,7 +615,7 @@ returns-clause-ok c =
     ∙ ap (λ (s : ConnectionsState). is_broken_by (due_keys m space) keys.rows rs s.items id)
     (sym ids)) in
     let runs = plan_runs l past words m id p space c.play.new.space by mode
-    c.in_ok-expired.ensures who k.space_is in
+    c.in-Ok.ensures who k.space_is in
     let gone = c.as_slice.result.now in
     let gone_is = c.as_slice.ensures ∙ runs.0 in
     let none : st.connections ≡ record { items = cs; posts = []; lost = []; drops = [] } =
@@ -632,7 +633,7 @@ returns-clause-ok c =
       table = keys;
       prefixes = rs;
     } in
-    let sent = c.in-Ok.ensures.sent ∙ ap (run_sendings run) none in
+    let sent = c.in-Ok-send_run.ensures.sent ∙ ap (run_sendings run) none in
     let by = ends_of id plan.deed l.out_max in
     let settles = ap (settled id plan.deed) sent in
     let done = c.finish-signalled.new.self.connections in

@@ -77,5 +77,5 @@ returns-clause-ok c =
     (ap (λ (s : ConnectionsState). s.drops) c.advance.ensures
     ∙ ap (λ (b : BookState). b.drops) c.self.view_is ∙ c.requires.none.drops
     ∙ dropped_take l past id most)
-    (ap Some c.bare_effect.ensures
+    (c.keep.ensures ∙ ap Some c.bare_effect-effect.ensures
     ∙ effect_take l past id most n _ number (grind (arith, given)))

@@ -219,7 +219,7 @@ returns-clause-ok c =
     (c.max-moment.ensures ∙ ap (max c.args.now) c.moment.ensures))
     (posted_tick l past space keys rs cs k m n gone due number done ended)
     (dropped_tick l past space keys rs cs k m n gone due number done ended)
-    (ap Some c.tick_effect.ensures
+    (c.keep.ensures ∙ ap Some c.tick_effect-effect.ensures
     ∙ effect_tick l past m n c.in_ok-keys.field-0.keys number
     (due_is m space c.in_ok-keys.field-0.keys c.in_ok-keys.ensures.keys
     ∙ ap (due_keys m) k.space_is))
