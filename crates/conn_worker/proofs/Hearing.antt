@@ -22,7 +22,8 @@ use Rattle.conn_worker.specs.Visits.{Idles, Piece, Standing, fed_connection, rea
 use Rattle.conn_worker.specs.Parts.{Breaks, BreaksAt, InParts}
 use Rattle.conn_worker.specs.Rounds.{Reads, most_read}
 use Rattle.conn_worker.proofs.Doing.{there_still}
-use Rattle.conn_worker.proofs.Serving.{Closing, Serving, idle_breaks, idle_serves, passes}
+use Rattle.conn_worker.specs.Serving.{Closing, NextRound, Serving}
+use Rattle.conn_worker.proofs.Serving.{idle_breaks, idle_serves, passes}
 use Rattle.conn_worker.proofs.Serving.{piece_breaks, piece_ends, piece_last, piece_serves}
 
 idle_not : (clock : Option ℕ) (h : Heard) (r : ReadRequests) (old new : Place)
@@ -69,9 +70,11 @@ module _ (clock : Option ℕ) (id : ℕ) (c : Connection) (start now : Standing)
 
     module _ (next : Standing) (unread : Keeps middle.left next.left) where
       pub idle_on : Delivers read.id middle.contents next.contents middle.place next.place
-          → next.counts ≡ middle.counts → Serving clock id read start next
+          → next.counts ≡ middle.counts
+          → Serving clock id read start next × NextRound clock id start now next
       idle_on d counts =
-          subst (λ x. Serving clock id x start next) (sym idled.same)
+          subst (λ x. Serving clock id x start next × NextRound clock id start now next)
+          (sym idled.same)
           (idle_serves clock id c start now s h middle idled.idles idled.counted idled.took kept
           next unread
           (subst (λ n. Delivers n middle.contents next.contents middle.place next.place) idle_id d)
@@ -80,9 +83,10 @@ module _ (clock : Option ℕ) (id : ℕ) (c : Connection) (start now : Standing)
       pub idle_off : (cause : Ended)
           → DeliversPart cause read.id middle.contents next.contents middle.place next.place
           → DeliveryCounts (Err cause) middle.counts next.counts
-          → Closing clock cause id read.requests start next
+          → Closing clock cause id read.requests start now next
       idle_off cause d counts =
-          subst (λ (x : Connection). Closing clock cause id x.requests start next) (sym idled.same)
+          subst (λ (x : Connection). Closing clock cause id x.requests start now next)
+          (sym idled.same)
           (idle_breaks clock id c start now s h middle idled.idles idled.counted idled.took kept
           next unread cause
           (subst (λ n. DeliversPart cause n middle.contents next.contents middle.place next.place)
@@ -152,7 +156,8 @@ module _ (clock : Option ℕ) (id : ℕ) (c : Connection) (start now : Standing)
         pub piece_on : (after : Connection) → r.stop ≡ None → after.reader ≡ read.reader
             → after.id ≡ read.id
             → after.requests ≡ read.requests + length (requests_in r.calls.items)
-            → after.requests ≤ length next.place.seen → Serving clock id after start next
+            → after.requests ≤ length next.place.seen
+            → Serving clock id after start next × NextRound clock id start now next
         piece_on after none same named count fits =
             piece_serves clock id c start now s brought.piece middle next brought.reads unread r
             read brought.all here counts after none same (named ∙ piece_id)
@@ -160,7 +165,7 @@ module _ (clock : Option ℕ) (id : ℕ) (c : Connection) (start now : Standing)
 
         pub piece_over : (e : Stop) (count : ℕ) → r.stop ≡ Some e
             → count ≡ read.requests + length (requests_in r.calls.items)
-            → Closing clock (ended_at e) id count start next
+            → Closing clock (ended_at e) id count start now next
         piece_over e count is counted =
             piece_ends clock id c start now s brought.piece middle next brought.reads unread r
             read brought.all here counts e count is (omega (arith, counted, brought.count_is))
@@ -168,7 +173,7 @@ module _ (clock : Option ℕ) (id : ℕ) (c : Connection) (start now : Standing)
       pub piece_off : (cause : Ended) (count : ℕ)
           → BreaksAt r.now cause read.id (requests_in r.calls.items) read.requests count middle next
           → DeliveryCounts (Err cause) middle.counts next.counts
-          → Closing clock cause id count start next
+          → Closing clock cause id count start now next
       piece_off cause count (ran, is, b) counts =
           piece_breaks clock id c start now s brought.piece middle next brought.reads unread cause
           (requests_in r.calls.items) r.now ran count brought.all.reads.items brought.all.at

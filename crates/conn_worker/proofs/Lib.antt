@@ -11,4 +11,5 @@ mod Doing
 mod Progress
 pub mod Serving
 mod Hearing
+mod Sessions
 pub mod Parting

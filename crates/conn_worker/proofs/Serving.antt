@@ -44,7 +44,8 @@ use Rattle.conn_worker.specs.Visits.{EndsService, ended_by}
 use Rattle.conn_worker.specs.Parts.{Breaks, InParts, Refused, Requests, Writes}
 use Rattle.conn_worker.specs.Rounds.{most_read, AreNew, Reads, Round, Rounds, Serves, Onward}
 use Rattle.conn_worker.specs.Rounds.{TicksOrLeaves, Waits, Waited, Came, AtEnd, NoTick}
-use Rattle.conn_worker.specs.Rounds.{Undelivered, Broken, NoFurther}
+use Rattle.conn_worker.specs.Rounds.{LastRound, Undelivered, Broken, NoFurther}
+use Rattle.conn_worker.specs.Serving.{Closing, EndRound, NextRound, Serving}
 use Rattle.conn_worker.proofs.Doing.{Done, Cut, breaks_cut, cut_by, done_by, gave_joined}
 use Rattle.conn_worker.proofs.Doing.{in_parts_done, runs_joined, there_still}
 use Rattle.conn_worker.proofs.Running.{none_ran}
@@ -55,37 +56,6 @@ use Rattle.conn_worker.proofs.Stopping.{NoQuits, any_quit, new_quit, none_in, no
 use Rattle.conn_worker.proofs.Stopping.{ran_quit, stopped_quits, unclosed_in, until_all}
 use Rattle.conn_worker.proofs.Stopping.{until_twice}
 use Rattle.conn_worker.proofs.Further.{prefix_behind, read_further, stop_further, until_further}
-
--- all that was read ran, in whole rounds, and all that this gave was written
-pub record Serving (clock : Option ℕ) (id : ℕ) (c : Connection) (start now : Standing) : Type 0
-  where
-    pub turns : List Turn
-    pub grows : Grows start.place now.place turns
-    pub work : All (IsWork id clock) turns
-    pub id_is : c.id ≡ id
-    pub counted : c.requests ≡ length (runs_in turns)
-    pub fits : c.requests ≤ length now.place.seen
-    pub heard : List ℕ
-    pub read : Consumes start.left now.left heard
-    pub rounds : Rounds clock id start heard now
-    pub reading : GoesOn parse heard c.reader
-    pub sound : stop_in heard ≡ None
-    pub runs : runs_in turns ≡ requests_of heard
-    pub wrote : Appends start.contents now.contents (gave (limits_of start.place) turns)
-    pub was_taken : reads_on (limits_of start.place) (past_of now.place) id ≡ true
-        → All (IsTaken (limits_of start.place) id
-        (taken (limits_of start.place) id (past_of now.place))) turns
-    pub admitted : is_admitted (past_of now.place) id ≡ true
-    pub faults : now.counts.faults ≡ start.counts.faults
-    pub ends : now.counts.ends ≡ start.counts.ends
-
--- the service has ended
-pub record Closing (clock : Option ℕ) (cause : Ended) (id requests : ℕ) (start new : Standing)
-    : Type 0 where
-  pub works : Works clock cause id requests start.left new.left start.contents new.contents
-      start.place new.place
-  pub serves : Serves clock cause id start new
-  pub counts : EndCounts cause start.counts new.counts
 
 no_stop : (o : Option Stop) (e : Stop) → o ≡ None → o ≡ Some e → ⊥
 no_stop o e none is = let no : None ≡ Some e = sym none ∙ is in cc
@@ -211,6 +181,28 @@ module _ (clock : Option ℕ) (id : ℕ) (c : Connection) (start now : Standing)
         length-append (runs_in s.turns) (runs_in ts),
       )
 
+  -- ---- the last round
+
+  served : (cause : Ended) (heard : List ℕ) (next : Standing)
+      → LastRound clock cause id s.heard heard now next
+      → ((e : Stop) → stop_in heard ≡ Some e
+      → (cause ≡ ended_at e) ⊎ (cause ≡ ended.LinkFault) ⊎ IsEnd cause id [] next.place)
+      → Serves clock cause id start next
+  served cause heard next last told = record {
+    before = s.heard;
+    middle = now;
+    rounds = s.rounds;
+    sound = s.sound;
+    after = heard;
+    last = last;
+    told = told;
+  }
+
+  ending : (cause : Ended) (heard : List ℕ) (next : Standing)
+      → LastRound clock cause id s.heard heard now next → EndRound clock cause id start now next
+  ending cause heard next last =
+      record { before = s.heard; after = heard; rounds = s.rounds; last = last }
+
   -- ---- a round
 
   module _ (heard piece : List ℕ) (is : heard ≡ s.heard ++ piece) (ws : Requests)
@@ -251,27 +243,30 @@ module _ (clock : Option ℕ) (id : ℕ) (c : Connection) (start now : Standing)
             → after.id ≡ id → after.requests ≡ c.requests + length ws
             → after.requests ≤ length next.place.seen → Round clock id s.heard heard now next
             → next.counts.faults ≡ now.counts.faults → next.counts.ends ≡ now.counts.ends
-            → Serving clock id after start next
-        goes_on after none reads same count fits round faults ends = record {
-          turns = d.turns ++ s.turns;
-          grows = grows_then start.place now.place next.place s.turns d.turns s.grows d.grows;
-          work = All-append (IsWork id clock) d.turns s.turns d.work s.work;
-          id_is = same;
-          counted = count ∙ sym all_count;
-          fits = fits;
-          heard = heard;
-          read = all_read;
-          rounds = Onward s.heard heard now next s.rounds round;
-          reading = reads;
-          sound = none;
-          runs = all_runs ∙ until_all (requests_of heard)
-              (none_stopped (requests_of heard) (fault_in heard) none).0;
-          wrote = all_wrote;
-          was_taken = all_caught;
-          admitted = still;
-          faults = faults ∙ s.faults;
-          ends = ends ∙ s.ends;
-        }
+            → Serving clock id after start next × NextRound clock id start now next
+        goes_on after none reads same count fits round faults ends = (
+          record {
+            turns = d.turns ++ s.turns;
+            grows = grows_then start.place now.place next.place s.turns d.turns s.grows d.grows;
+            work = All-append (IsWork id clock) d.turns s.turns d.work s.work;
+            id_is = same;
+            counted = count ∙ sym all_count;
+            fits = fits;
+            heard = heard;
+            read = all_read;
+            rounds = Onward s.heard heard now next s.rounds round;
+            reading = reads;
+            sound = none;
+            runs = all_runs ∙ until_all (requests_of heard)
+                (none_stopped (requests_of heard) (fault_in heard) none).0;
+            wrote = all_wrote;
+            was_taken = all_caught;
+            admitted = still;
+            faults = faults ∙ s.faults;
+            ends = ends ∙ s.ends;
+          },
+          record { before = s.heard; after = heard; rounds = s.rounds; round = round },
+        )
 
         -- a QUIT ran, where one stopped the reader
         quit_ran : stop_in heard ≡ Some Quit → any_quit (runs_in (d.turns ++ s.turns)) ≡ true
@@ -301,7 +296,7 @@ module _ (clock : Option ℕ) (id : ℕ) (c : Connection) (start now : Standing)
         pub goes_no_further : (e : Stop) (count : ℕ) → stop_in heard ≡ Some e
             → count ≡ c.requests + length ws → Round clock id s.heard heard now next
             → next.counts.faults ≡ now.counts.faults → next.counts.ends ≡ now.counts.ends
-            → Closing clock (ended_at e) id count start next
+            → Closing clock (ended_at e) id count start now next
         goes_no_further e count stops counts round faults ends = record {
           works = record {
             turns = d.turns ++ s.turns;
@@ -319,25 +314,21 @@ module _ (clock : Option ℕ) (id : ℕ) (c : Connection) (start now : Standing)
             all_taken = λ w. all_caught;
             shown = stop_shown e stops;
           };
-          serves = record {
-            before = s.heard;
-            middle = now;
-            rounds = s.rounds;
-            sound = s.sound;
-            after = heard;
-            last = NoFurther e refl stops round;
-            told = λ g same. inl (ap ended_at (same_Some e g (sym stops ∙ same)));
-          };
+          serves = served (ended_at e) heard next (NoFurther e refl stops round)
+              (λ g same. inl (ap ended_at (same_Some e g (sym stops ∙ same))));
           counts = stop_counts e start.counts next.counts (faults ∙ s.faults) (ends ∙ s.ends);
+          round = ending (ended_at e) heard next (NoFurther e refl stops round);
         }
 
     -- the service ended in it
     pub breaks_off : (cause : Ended) (ran count : ℕ)
         → (d : Cut clock cause id (limits_of start.place) ws ran link next.contents now.place
         next.place) → count ≡ c.requests + ran
-        → Serves clock cause id start next → EndCounts cause now.counts next.counts
-        → Closing clock cause id count start next
-    breaks_off cause ran count d counts serves ends = record {
+        → LastRound clock cause id s.heard heard now next
+        → ((e : Stop) → stop_in heard ≡ Some e
+        → (cause ≡ ended_at e) ⊎ (cause ≡ ended.LinkFault) ⊎ IsEnd cause id [] next.place)
+        → EndCounts cause now.counts next.counts → Closing clock cause id count start now next
+    breaks_off cause ran count d counts last told ends = record {
       works = record {
         turns = d.turns ++ s.turns;
         grows = grows_then start.place now.place next.place s.turns d.turns s.grows d.grows;
@@ -363,8 +354,9 @@ module _ (clock : Option ℕ) (id : ℕ) (c : Connection) (start now : Standing)
         all_taken = λ w. absurd (cut_broken cause id d.turns next.place d.cause_is w);
         shown = end_shown cause heard d.turns next.place d.cause_is;
       };
-      serves = serves;
+      serves = served cause heard next last told;
       counts = counts_from cause start.counts now.counts next.counts s.faults s.ends ends;
+      round = ending cause heard next last;
     }
 
   -- ---- a read that brought nothing
@@ -401,7 +393,8 @@ module _ (clock : Option ℕ) (id : ℕ) (c : Connection) (start now : Standing)
       idle_took = consumes_kept now.left middle.left next.left [] took unread
 
       pub idle_serves : Delivers id middle.contents next.contents middle.place next.place
-          → next.counts ≡ middle.counts → Serving clock id c start next
+          → next.counts ≡ middle.counts
+          → Serving clock id c start next × NextRound clock id start now next
       idle_serves d counts =
           let w : Writes id middle next
           = record { delivers = d; unread = unread; counts = counts } in
@@ -420,7 +413,7 @@ module _ (clock : Option ℕ) (id : ℕ) (c : Connection) (start now : Standing)
       pub idle_breaks : (cause : Ended)
           → DeliversPart cause id middle.contents next.contents middle.place next.place
           → DeliveryCounts (Err cause) middle.counts next.counts
-          → Closing clock cause id c.requests start next
+          → Closing clock cause id c.requests start now next
       idle_breaks cause d counts =
           let cut = cut_by clock id (limits_of start.place) [] middle.contents next.contents
           now.place middle.place next.place passes.turns limits_same passes.grows passes.work
@@ -428,15 +421,8 @@ module _ (clock : Option ℕ) (id : ℕ) (c : Connection) (start now : Standing)
           let zero : c.requests ≡ c.requests + 0 = omega arith in
           breaks_off s.heard [] idle_heard [] idle_new middle.contents kept next idle_took cause 0
           c.requests cut zero
-          (record {
-            before = s.heard;
-            middle = now;
-            rounds = s.rounds;
-            sound = s.sound;
-            after = s.heard;
-            last = Undelivered middle refl waits d counts unread;
-            told = λ e stops. absurd (no_stop (stop_in s.heard) e s.sound stops);
-          })
+          (Undelivered middle refl waits d counts unread)
+          (λ e stops. absurd (no_stop (stop_in s.heard) e s.sound stops))
           (counts_from cause now.counts middle.counts next.counts counted.1 counted.2
           (cut_counts cause id cut.turns next.place middle.counts next.counts cut.cause_is counts))
 
@@ -491,7 +477,8 @@ module _ (clock : Option ℕ) (id : ℕ) (c : Connection) (start now : Standing)
 
       pub piece_serves : (after : Connection) → r.stop ≡ None → after.reader ≡ read.reader
           → after.id ≡ id → after.requests ≡ c.requests + length (requests_in r.calls.items)
-          → after.requests ≤ length next.place.seen → Serving clock id after start next
+          → after.requests ≤ length next.place.seen
+          → Serving clock id after start next × NextRound clock id start now next
       unfolding ws
       piece_serves after none same named count fits =
           goes_on (s.heard ++ piece) piece refl ws (piece_new piece ws h.reads.items)
@@ -502,7 +489,7 @@ module _ (clock : Option ℕ) (id : ℕ) (c : Connection) (start now : Standing)
 
       pub piece_ends : (e : Stop) (count : ℕ) → r.stop ≡ Some e
           → count ≡ c.requests + length (requests_in r.calls.items)
-          → Closing clock (ended_at e) id count start next
+          → Closing clock (ended_at e) id count start now next
       unfolding ws
       piece_ends e count is counted =
           goes_no_further (s.heard ++ piece) piece refl ws (piece_new piece ws h.reads.items)
@@ -513,7 +500,7 @@ module _ (clock : Option ℕ) (id : ℕ) (c : Connection) (start now : Standing)
         → ws ≡ up_to_quit (parse (fed c.reader piece)).items → IfSome clock (λ m. moment ≡ m)
         → Breaks moment cause id ws ran middle next → count ≡ c.requests + ran
         → DeliveryCounts (Err cause) middle.counts next.counts
-        → Closing clock cause id count start next
+        → Closing clock cause id count start now next
     piece_breaks cause ws moment ran count is at b counted counts =
         let on = subst (λ k. is_admitted (past_of k) id ≡ true) (sym reads.place) s.admitted in
         let cut = subst (λ k. Cut clock cause id (limits_of start.place) ws ran middle.contents
@@ -522,15 +509,8 @@ module _ (clock : Option ℕ) (id : ℕ) (c : Connection) (start now : Standing)
         on (piece_last piece ws is) b) in
         breaks_off (s.heard ++ piece) piece refl ws (piece_new piece ws is) middle.contents
         reads.kept next piece_took cause ran count cut counted
-        (record {
-          before = s.heard;
-          middle = now;
-          rounds = s.rounds;
-          sound = s.sound;
-          after = s.heard ++ piece;
-          last = Broken middle piece ws moment ran refl reads (piece_new piece ws is) at b;
-          told = λ e stops. inr (cut_any cause id cut.turns next.place cut.cause_is);
-        })
+        (Broken middle piece ws moment ran refl reads (piece_new piece ws is) at b)
+        (λ e stops. inr (cut_any cause id cut.turns next.place cut.cause_is))
         (counts_from cause now.counts middle.counts next.counts
         (ap (λ (k : Counts). k.faults) reads.counts) (ap (λ (k : Counts). k.ends) reads.counts)
         (cut_counts cause id cut.turns next.place middle.counts next.counts cut.cause_is counts))
@@ -592,7 +572,7 @@ module _ (clock : Option ℕ) (id : ℕ) (c : Connection) (start now : Standing)
   nothing_more : (cause : Ended) (next : Standing) → LinkEnds cause now.counts next.counts
       → next.place ≡ now.place → Consumes now.left next.left []
       → Keeps now.contents next.contents → EndCounts cause now.counts next.counts
-      → Closing clock cause id c.requests start next
+      → Closing clock cause id c.requests start now next
   nothing_more cause next ends still took kept counts = record {
     works = rest_works cause next
         (subst (λ k. Grows now.place k []) (sym still) (grows_none now.place s.grows.within))
@@ -602,43 +582,31 @@ module _ (clock : Option ℕ) (id : ℕ) (c : Connection) (start now : Standing)
         → All (IsTaken (limits_of start.place) id
         (taken (limits_of start.place) id (past_of k))) s.turns) (sym still) s.was_taken)
         took kept;
-    serves = record {
-      before = s.heard;
-      middle = now;
-      rounds = s.rounds;
-      sound = s.sound;
-      after = s.heard;
-      last = AtEnd ends refl still took kept;
-      told = λ e stops. absurd (no_stop (stop_in s.heard) e s.sound stops);
-    };
+    serves = served cause s.heard next (AtEnd ends refl still took kept)
+        (λ e stops. absurd (no_stop (stop_in s.heard) e s.sound stops));
     counts = counts_from cause start.counts now.counts next.counts s.faults s.ends counts;
+    round = ending cause s.heard next (AtEnd ends refl still took kept);
   }
 
   unticked : (e : Refusal) (next : Standing) → EndsService e
       → Refuses IsServerCause e now.place next.place → Consumes now.left next.left []
       → IdleCounted now.counts next.counts → Keeps now.contents next.contents
       → EndCounts (ended_by e) now.counts next.counts
-      → Closing clock (ended_by e) id c.requests start next
+      → Closing clock (ended_by e) id c.requests start now next
   unticked e next ends r took counted kept counts = record {
     works = rest_works (ended_by e) next r.grows (unticked_shown e next.place ends r.cause_is)
         (λ w. absurd (unticked_broken e ends w)) took kept;
-    serves = record {
-      before = s.heard;
-      middle = now;
-      rounds = s.rounds;
-      sound = s.sound;
-      after = s.heard;
-      last = NoTick e ends refl counted refl r took kept;
-      told = λ f stops. absurd (no_stop (stop_in s.heard) f s.sound stops);
-    };
+    serves = served (ended_by e) s.heard next (NoTick e ends refl counted refl r took kept)
+        (λ f stops. absurd (no_stop (stop_in s.heard) f s.sound stops));
     counts = counts_from (ended_by e) start.counts now.counts next.counts s.faults s.ends counts;
+    round = ending (ended_by e) s.heard next (NoTick e ends refl counted refl r took kept);
   }
 
   -- memory ran out for what was read
   unread_breaks : (piece : List ℕ) (next : Standing) → length piece ≤ most_read
       → Consumes now.left next.left piece → Keeps now.contents next.contents
       → next.counts ≡ now.counts → next.place ≡ now.place
-      → Closing clock ended.NoMemory id c.requests start next
+      → Closing clock ended.NoMemory id c.requests start now next
   unread_breaks piece next short took kept counts still =
       let reads : Reads piece now next = record {
         short = short;
@@ -661,19 +629,19 @@ module _ (clock : Option ℕ) (id : ℕ) (c : Connection) (start now : Standing)
   pub hears_stops : (most : ℕ) (cause : Ended) (after : Connection) (next : Standing)
       → most ≤ most_read → HearsPart clock most cause c after now next
       → Keeps now.contents next.contents → EndCounts cause now.counts next.counts
-      → Closing clock cause id after.requests start next
+      → Closing clock cause id after.requests start now next
   hears_stops most cause after next le (Nothing ends same still took) kept counts =
-      subst (λ (x : Connection). Closing clock cause id x.requests start next) (sym same)
+      subst (λ (x : Connection). Closing clock cause id x.requests start now next) (sym same)
       (nothing_more cause next ends still took kept counts)
   hears_stops most cause after next le (Unticked e ends is r same took counted) kept counts =
-      subst (λ (x : Connection). Closing clock cause id x.requests start next) (sym same)
-      (subst (λ z. Closing clock z id c.requests start next) (sym is)
+      subst (λ (x : Connection). Closing clock cause id x.requests start now next) (sym same)
+      (subst (λ z. Closing clock z id c.requests start now next) (sym is)
       (unticked e next ends r took counted kept
       (subst (λ z. EndCounts z now.counts next.counts) is counts)))
   hears_stops most cause after next le (Unread is piece short took same still count) kept
       counts =
-      subst (λ n. Closing clock cause id n start next) (sym count)
-      (subst (λ z. Closing clock z id c.requests start next) (sym is)
+      subst (λ n. Closing clock cause id n start now next) (sym count)
+      (subst (λ z. Closing clock z id c.requests start now next) (sym is)
       (unread_breaks piece next (omega (arith, short, le)) took kept same still))
 
 -- of the same connection

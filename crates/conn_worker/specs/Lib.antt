@@ -4,4 +4,6 @@ pub mod Elsewhere
 pub mod Visits
 pub mod Parts
 pub mod Rounds
+pub mod Serving
+pub mod Sessions
 pub mod Complete

@@ -7,7 +7,9 @@ mod gate;
 mod quit;
 mod report;
 mod serve;
+mod session;
 
 pub use gate::{Gate, OpenGate};
 pub use report::{Ended, Report};
-pub use serve::serve_link;
+pub use serve::{PIECE, serve_link};
+pub use session::{Finished, Session, Unadmitted};

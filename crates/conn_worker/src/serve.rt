@@ -1,12 +1,13 @@
 //! One connection, from its admission to its end.
-ghost use Rattle.std.specs.Prelude.{◌≡◌, ◌≤◌, ◌<◌, true, length, None, IfErr, IfOk};
+ghost use Rattle.std.specs.Prelude.{◌≡◌, ◌≤◌, ◌<◌, true, length, None, IfErr, IfOk, OnOk};
 ghost use Rattle.std.specs.Io.KnownBytes.{Keeps};
 ghost use Rattle.resp_stream.specs.Stream.{begun};
 ghost use Rattle.serial_model.specs.History.{is_admitted};
 ghost use Rattle.turn_lock.specs.Own.{IsWithin, past_of};
 ghost use Rattle.conn_worker.specs.Visits.{EndCounts, Hears, HearsPart, HearingCounts, Leaves};
 ghost use Rattle.conn_worker.specs.Visits.{MayClose, Visits, Works, read_in, standing};
-ghost use Rattle.conn_worker.specs.Rounds.{InRounds, Serves};
+ghost use Rattle.conn_worker.specs.Rounds.{InRounds, Serves, most_read};
+ghost use Rattle.conn_worker.specs.Serving.{GoesOff, GoesOn, IsServed};
 ghost use Rattle.conn_worker.specs.Complete.{EndShows};
 
 use super::connection::{Connection, ReadRequests};
@@ -21,7 +22,7 @@ use std::sync::Wait;
 use turn_lock::{Seat, TurnLock};
 
 /// How many bytes are asked of a link at once.
-const PIECE: usize = 16_384;
+pub const PIECE: usize = 16_384;
 
 /// What a read of a link brought.
 #[derive(Drop)]
@@ -63,6 +64,7 @@ fn hear_once<R: Wait, L: Link, C: Clock, G: Gate>(
     requires within { IsWithin seat.old }
     requires buffer { 0 < length buffer.old }
     ensures buffer { length buffer.new ≡ length buffer.old }
+    ensures same { connection.new.id ≡ connection.old.id }
     ensures ok { IfOk result (λ heard. Hears (C.moment clock.now) (length buffer.old) heard
         connection.old connection.new
         (standing (L.left link.old) (L.contents link.old) (L.counts link.old) seat.old)
@@ -88,6 +90,58 @@ fn hear_once<R: Wait, L: Link, C: Clock, G: Gate>(
         },
         LinkRead::End => Err(Ended::PeerEnd),
         LinkRead::Failed => Err(Ended::LinkFault),
+    }
+}
+
+/// One round: the link is read once, the requests run that are whole by then, and all that waits
+/// for the connection is taken and written.
+pub(crate) fn go_round<R: Wait, L: Link, C: Clock, G: Gate>(
+    rt: &R,
+    alloc: Global,
+    lock: &TurnLock<SharedBook>,
+    seat: &mut Seat<SharedBook>,
+    link: &mut L,
+    clock: &C,
+    gate: &G,
+    connection: &mut Connection,
+    buffer: &mut [u8],
+) -> Result<(), Ended>
+    requires lock { seat.old.lock ≡ lock.now }
+    requires buffer { length buffer.old ≡ most_read }
+    requires served { IsServed (C.moment clock.now) connection.old
+        (standing (L.left link.old) (L.contents link.old) (L.counts link.old) seat.old) }
+    ensures buffer { length buffer.new ≡ length buffer.old }
+    ensures same { connection.new.id ≡ connection.old.id }
+    ensures ok { OnOk result (GoesOn (C.moment clock.now) connection.old connection.new
+        (standing (L.left link.old) (L.contents link.old) (L.counts link.old) seat.old)
+        (standing (L.left link.new) (L.contents link.new) (L.counts link.new) seat.new)) }
+    ensures err { IfErr result (λ e. GoesOff (C.moment clock.now) e connection.old connection.new
+        (standing (L.left link.old) (L.contents link.old) (L.counts link.old) seat.old)
+        (standing (L.left link.new) (L.contents link.new) (L.counts link.new) seat.new)) }
+{
+    let heard = match hear_once(rt, alloc, lock, seat, link, clock, gate, connection, buffer) {
+        Ok(heard) => heard,
+        Err(ended) => return Err(ended),
+    };
+    match heard.read() {
+        None => {
+            match deliver(rt, lock, seat, link, connection.id) {
+                Ok(()) => {}
+                Err(ended) => return Err(ended),
+            }
+            gate.after(connection.id, connection.requests);
+            Ok(())
+        }
+        Some(ReadRequests { calls, now, stop }) => {
+            match connection.run_parts(rt, alloc, lock, seat, link, gate, calls, now) {
+                Ok(()) => {}
+                Err(ended) => return Err(ended),
+            }
+            match stop {
+                None => Ok(()),
+                Some(stop) => Err(stop.ended()),
+            }
+        }
     }
 }
 
@@ -121,7 +175,7 @@ fn serve_admitted<R: Wait, L: Link, C: Clock, G: Gate>(
 {
     let mut buffer = [0u8; PIECE];
     for _ in rt.forever() {
-        let came = hear_once(
+        match go_round(
             rt,
             alloc,
             lock,
@@ -131,29 +185,9 @@ fn serve_admitted<R: Wait, L: Link, C: Clock, G: Gate>(
             gate,
             connection,
             &mut buffer,
-        );
-        let heard = match came {
-            Ok(heard) => heard,
+        ) {
+            Ok(()) => {}
             Err(ended) => return ended,
-        };
-        match heard.read() {
-            None => {
-                match deliver(rt, lock, seat, link, connection.id) {
-                    Ok(()) => {}
-                    Err(ended) => return ended,
-                }
-                gate.after(connection.id, connection.requests);
-            }
-            Some(ReadRequests { calls, now, stop }) => {
-                match connection.run_parts(rt, alloc, lock, seat, link, gate, calls, now) {
-                    Ok(()) => {}
-                    Err(ended) => return ended,
-                }
-                match stop {
-                    None => {}
-                    Some(stop) => return stop.ended(),
-                }
-            }
         }
     }
     unreachable!()
@@ -172,9 +206,9 @@ fn may_close<R: Wait>(rt: &R, lock: &TurnLock<SharedBook>, seat: &mut Seat<Share
     }
 }
 
-// Closes a connection whose service ended so, and tells how it ended: one that quit may be found
-// closed by another.
-fn leave<R: Wait>(
+/// Closes a connection whose service ended so, and tells how it ended: one that quit may be found
+/// closed by another.
+pub(crate) fn leave<R: Wait>(
     rt: &R,
     lock: &TurnLock<SharedBook>,
     seat: &mut Seat<SharedBook>,

@@ -65,6 +65,11 @@ impl TcpLink {
         link.patience = Patience::of(UNANSWERED_READS);
         Ok(link)
     }
+
+    /// Its socket, for whoever waits for it or writes without waiting, of which no count tells.
+    pub fn stream(&self) -> &TcpStream {
+        &self.stream
+    }
 }
 
 impl Link for TcpLink {

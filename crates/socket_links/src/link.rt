@@ -4,7 +4,10 @@ ghost use Rattle.std.specs.declared.option.Option.TheVariants.{None};
 ghost use Rattle.edge_links.specs.Counts.{nought};
 
 use super::bell::{Bell, Wakeable};
+use super::lookout::{Lookout, Sign};
+use super::unblocked::Unblocked;
 use super::watch::Watch;
+use super::watched::Watched;
 use edge_links::{Counts, Link, LinkRead, NoMemory, TcpLink, Wrote};
 use std::alloc::Global;
 use std::net::{Net, TcpStream};
@@ -53,6 +56,8 @@ pub struct SocketLink<R> {
     socket: Option<Socket>,
     /// Stands in place of the socket as soon as the bell is heeded.
     watch: Option<Watch>,
+    /// Stands as soon as a lookout tells of the link, and no read or write waits.
+    unblocked: Option<Unblocked>,
 }
 
 impl<R: Net + AllocGlobal> SocketLink<R> {
@@ -66,6 +71,7 @@ impl<R: Net + AllocGlobal> SocketLink<R> {
             counts: Counts::new(),
             socket,
             watch: None,
+            unblocked: None,
         }
     }
 
@@ -74,6 +80,9 @@ impl<R: Net + AllocGlobal> SocketLink<R> {
     fn is_read_due(&mut self) -> bool
         ensures { self.new.counts ≡ self.old.counts }
     {
+        if self.unblocked.is_some() {
+            return true;
+        }
         if let Some(watch) = &mut self.watch {
             return watch.is_read_due();
         }
@@ -114,6 +123,34 @@ impl<R: Net + AllocGlobal> SocketLink<R> {
             }
         }
     }
+
+    fn is_lost(&self) -> bool {
+        match &self.unblocked {
+            Some(unblocked) => unblocked.is_lost(),
+            None => false,
+        }
+    }
+
+    // One that was dialled isn't watched: its reads count how long it is without an answer.
+    fn can_be_watched(&self) -> bool {
+        match &self.socket {
+            Some(socket) => !socket.is_dialled,
+            None => false,
+        }
+    }
+
+    // Whether the lookout has taken a socket that waited until now.
+    fn has_unblocked(&self, lookout: &Lookout, place: usize) -> bool {
+        let stream = self.link.stream();
+        if stream.set_nonblocking(true).is_err() {
+            return false;
+        }
+        let has_taken = lookout.has_taken(stream.as_raw_fd(), place);
+        if !has_taken {
+            let _ = stream.set_nonblocking(false);
+        }
+        has_taken
+    }
 }
 
 impl<R> Wakeable for SocketLink<R> {
@@ -133,11 +170,18 @@ impl<R: Net + AllocGlobal> Link for SocketLink<R> {
     ghost counts = { λ l. l.counts };
 
     fn read(&mut self, buf: &mut [u8]) -> LinkRead {
+        if self.is_lost() {
+            self.counts.fault();
+            return LinkRead::Failed;
+        }
         if !self.is_read_due() {
             self.counts.idle();
             return LinkRead::Idle;
         }
         let answer = self.link.read(buf);
+        if let Some(unblocked) = &mut self.unblocked {
+            unblocked.has_read(answer == LinkRead::Bytes(buf.len()));
+        }
         match answer {
             LinkRead::Bytes(n) => self.has_read(n == buf.len()),
             LinkRead::Idle => self.counts.idle(),
@@ -148,10 +192,52 @@ impl<R: Net + AllocGlobal> Link for SocketLink<R> {
     }
 
     fn write(&mut self, bytes: &[u8]) -> Wrote {
-        let answer = self.link.write(bytes);
+        let answer = match &mut self.unblocked {
+            Some(unblocked) => unblocked.write(self.link.stream(), bytes),
+            None => self.link.write(bytes),
+        };
         if answer == Wrote::Failed {
             self.counts.fault();
         }
         answer
+    }
+}
+
+impl<R: Net + AllocGlobal> Watched for SocketLink<R> {
+    fn watch(&mut self, lookout: &Lookout, place: usize) -> bool {
+        if self.unblocked.is_some() {
+            return lookout.has_taken(self.link.stream().as_raw_fd(), place);
+        }
+        if !self.can_be_watched() || !self.has_unblocked(lookout, place) {
+            return false;
+        }
+        self.unblocked = Some(Unblocked::new(self.rt.alloc()));
+        true
+    }
+
+    fn told(&mut self, sign: Sign) {
+        if let Some(unblocked) = &mut self.unblocked {
+            unblocked.told(sign);
+        }
+    }
+
+    fn is_due(&self) -> bool {
+        match &self.unblocked {
+            Some(unblocked) => unblocked.is_due(),
+            None => true,
+        }
+    }
+
+    fn flush(&mut self, now: u64) {
+        if let Some(unblocked) = &mut self.unblocked {
+            unblocked.flush(self.link.stream(), now);
+        }
+    }
+
+    fn is_behind(&self) -> bool {
+        match &self.unblocked {
+            Some(unblocked) => unblocked.is_behind(),
+            None => false,
+        }
     }
 }

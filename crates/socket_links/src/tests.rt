@@ -1,4 +1,6 @@
 //! Links over the loopback address: what their reads bring, with a bell and without.
+mod watched;
+
 use super::{SocketNet, Wakeable};
 use edge_links::{Accepted, Acceptor, Link, LinkRead, Net, Wrote};
 use std::test::Fail;

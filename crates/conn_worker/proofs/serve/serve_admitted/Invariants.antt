@@ -1,7 +1,7 @@
 use Rattle.std.proofs.Common.{◌≡◌, length}
 use Rattle.conn_worker.specs.Visits.{standing}
 use Rattle.conn_worker.specs.Rounds.{most_read}
-use Rattle.conn_worker.proofs.Serving.{Serving}
+use Rattle.conn_worker.specs.Serving.{Serving}
 use Rattle.conn_worker.proofs.serve.serve_admitted.Given as goal
 
 abbrev pub invariant-loop : goal.invariant-loop
