@@ -50,6 +50,9 @@ module _ (old new : Place) (look : Looks old new) where
   pub look_parts : new.parts ≡ old.parts
   look_parts = (look_grows old new look).1.parts
 
+  pub look_seen : IsPrefix old.seen new.seen
+  look_seen = (look_grows old new look).1.seen
+
   pub look_within : IsWithin new
   look_within = (look_grows old new look).1.within
 

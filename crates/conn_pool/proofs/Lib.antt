@@ -5,5 +5,7 @@ mod Tying
 mod Parting
 mod Once
 mod Leaving
+mod Hosting
+mod Visiting
 mod Sorting
 mod Adding

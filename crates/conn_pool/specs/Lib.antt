@@ -3,6 +3,7 @@ pub mod Moves
 pub mod Ties
 pub mod Shown
 pub mod Crew
+pub mod Guests
 pub mod Orders
 pub mod EndTotals
 pub mod Reported

@@ -1,81 +1,173 @@
-//! Which connections are woken by what the turns of others sent them.
+//! Which workers are called to connections that the turns of others sent something to.
 use conn_worker::{Ended, Gate};
 use resp_value::Words;
-use shared_book::Posted;
-use socket_links::Bell;
+use shared_book::{Ids, Posted};
+use socket_links::LookoutBell;
 use std::alloc::Global;
-use std::sync::{Mutex, Wait};
+use std::sync::atomic::{AtomicBool, AtomicU64, Ordering};
+use std::sync::{Arc, Mutex, Wait};
 
-/// The bell of a connection's link.
+/// How a worker is called by others.
 #[derive(Drop)]
-struct Hung {
-    id: u64,
-    bell: Bell,
+struct Line {
+    /// A bit for the connections whose ids leave one rest by 64.
+    bits: AtomicU64,
+    is_asleep: AtomicBool,
+    bell: LookoutBell,
 }
 
-/// The bells of the connections that may be sent something unasked.
+/// A worker's line, which it shares with those who call it.
+#[derive(Drop)]
+pub struct Calling {
+    line: Arc<Line, Global>,
+}
+
+/// The connections of a worker that were sent something. A bit stands for all whose ids leave the
+/// same rest by 64.
+#[derive(Clone, Copy, Debug, Drop)]
+pub struct Called {
+    bits: u64,
+}
+
+impl Called {
+    /// No connection.
+    pub const NONE: Called = Called { bits: 0 };
+
+    pub fn is_empty(self) -> bool {
+        self.bits == 0
+    }
+
+    pub fn has(self, id: u64) -> bool {
+        self.bits & (1 << (id % 64)) != 0
+    }
+}
+
+impl Calling {
+    fn new(alloc: Global, bell: LookoutBell) -> Option<Calling> {
+        let line = Line {
+            bits: AtomicU64::new(0),
+            is_asleep: AtomicBool::new(false),
+            bell,
+        };
+        match Arc::new(alloc, line) {
+            Ok(line) => Some(Calling { line }),
+            Err(_) => None,
+        }
+    }
+
+    fn share(&self) -> Option<Calling> {
+        match Arc::try_clone(&self.line) {
+            Ok(line) => Some(Calling { line }),
+            Err(_) => None,
+        }
+    }
+
+    // Wakes the worker where it waits.
+    fn call(&self, bits: u64) {
+        self.line.bits.fetch_or(bits, Ordering::SeqCst);
+        if self.line.is_asleep.swap(false, Ordering::SeqCst) {
+            self.line.bell.ring();
+        }
+    }
+
+    /// Those who were called since this was last asked.
+    pub fn take(&self) -> Called {
+        Called {
+            bits: self.line.bits.swap(0, Ordering::SeqCst),
+        }
+    }
+
+    /// The worker is about to wait, and a call rings its bell from now on. Whether it may wait: it
+    /// was not called before.
+    pub fn may_sleep(&self) -> bool {
+        self.line.is_asleep.store(true, Ordering::SeqCst);
+        self.line.bits.load(Ordering::SeqCst) == 0
+    }
+
+    /// The worker waits no longer. Whether it was called.
+    pub fn wake_up(&self) -> bool {
+        self.line.is_asleep.store(false, Ordering::SeqCst);
+        self.line.bits.load(Ordering::SeqCst) != 0
+    }
+}
+
+/// The lines of all workers.
 #[derive(Drop)]
 pub struct Bells {
     posted: Posted,
-    hung: Mutex<Vec<Hung>>,
+    lines: Mutex<Vec<Calling>>,
 }
 
 impl Bells {
     pub fn new(alloc: Global, posted: Posted) -> Bells {
         Bells {
             posted,
-            hung: Mutex::new(Vec::new(alloc)),
+            lines: Mutex::new(Vec::new(alloc)),
         }
     }
 
-    // Without memory for it the connection is not woken, and looks as its reads end.
-    fn hang<R: Wait>(&self, rt: &R, id: u64, bell: &Bell) {
-        let Ok(shared) = bell.share() else {
-            return;
-        };
-        let hung = Hung { id, bell: shared };
-        if self.hung.lock(rt).push(hung).is_ok() {
-            bell.be_heeded();
+    /// A line for one more worker, whose wait this bell ends. Without memory there is none.
+    pub fn line<R: Wait>(&self, rt: &R, alloc: Global, bell: LookoutBell) -> Option<Calling> {
+        let calling = Calling::new(alloc, bell)?;
+        let shared = calling.share()?;
+        match self.lines.lock(rt).push(shared) {
+            Ok(()) => Some(calling),
+            Err(_) => None,
         }
     }
 
-    fn take_down<R: Wait>(&self, rt: &R, id: u64) {
-        let mut hung = self.hung.lock(rt);
-        let hung = &mut *hung;
-        if let Some(place) = hung.iter().position(|it| it.id == id) {
-            hung.swap_remove(place);
-        }
-    }
-
-    /// Rings for those to whom something was sent since this was last called.
+    /// Calls all workers to those to whom something was sent since this was last called.
     pub fn ring<R: Wait>(&self, rt: &R) {
         let ids = self.posted.take();
         if ids.is_empty() {
             return;
         }
-        for hung in self.hung.lock(rt).iter() {
-            if ids.has(hung.id) {
-                hung.bell.ring();
-            }
+        let bits = bits_of(ids);
+        for calling in self.lines.lock(rt).iter() {
+            calling.call(bits);
         }
     }
 }
 
-/// The gate of one link, at which its bell is hung and those of others are rung.
+fn bits_of(ids: Ids) -> u64 {
+    let mut bits = 0;
+    for rest in 0..64 {
+        if ids.has(rest) {
+            bits |= 1 << rest;
+        }
+    }
+    bits
+}
+
+/// The gate of one connection's round, which rings for those whom its turns concern.
 #[derive(Drop)]
 pub struct Ringing<'a, G, R> {
-    pub rt: &'a R,
-    pub gate: &'a G,
-    pub bells: &'a Bells,
-    pub bell: Option<Bell>,
+    rt: &'a R,
+    gate: &'a G,
+    bells: &'a Bells,
+    asks: AtomicBool,
+}
+
+impl<'a, G, R> Ringing<'a, G, R> {
+    pub fn new(rt: &'a R, gate: &'a G, bells: &'a Bells) -> Self {
+        Ringing {
+            rt,
+            gate,
+            bells,
+            asks: AtomicBool::new(false),
+        }
+    }
+
+    /// Whether the connection may be sent something unasked from now on.
+    pub fn asks_for_more(&self) -> bool {
+        self.asks.load(Ordering::SeqCst)
+    }
 }
 
 impl<'a, G: Gate, R: Wait> Gate for Ringing<'a, G, R> {
     fn before(&self, id: u64, words: &Words) {
-        if let Some(bell) = &self.bell {
-            if !bell.is_heeded() && asks_for_more(words) {
-                self.bells.hang(self.rt, id, bell);
-            }
+        if asks_for_more(words) {
+            self.asks.store(true, Ordering::SeqCst);
         }
         self.gate.before(id, words);
     }
@@ -86,11 +178,6 @@ impl<'a, G: Gate, R: Wait> Gate for Ringing<'a, G, R> {
     }
 
     fn ended(&self, id: u64, ended: Ended) {
-        if let Some(bell) = &self.bell {
-            if bell.is_heeded() {
-                self.bells.take_down(self.rt, id);
-            }
-        }
         self.bells.ring(self.rt);
         self.gate.ended(id, ended);
     }

@@ -1,24 +1,30 @@
 //! The workers.
 ghost use Rattle.std.specs.Thread.{IsSync};
-ghost use Rattle.std.specs.Prelude.{◌≡◌, ◌+◌, ◌-◌, ◌<◌, ◌≤◌, [], true, false, length, IfSome};
+ghost use Rattle.std.specs.Prelude.{◌≡◌, ◌+◌, ◌-◌, ◌*◌, ◌<◌, ◌≤◌, ◌==◌, [], true, false, not};
+ghost use Rattle.std.specs.Prelude.{length, IfSome};
 ghost use Rattle.turn_lock.specs.Own.{IsWithin, past_of, turns_of};
 ghost use Rattle.conn_pool.specs.Ties.{Parted, Tied};
 ghost use Rattle.turn_lock.specs.History.{IsPrefix};
-ghost use Rattle.conn_pool.specs.Crew.{IsStopped, Leaves, Looks, Ready, Same};
+ghost use Rattle.conn_pool.specs.Crew.{Gives, IsOf, IsReady, IsStopped, Leaves, Looks, Ready};
+ghost use Rattle.conn_pool.specs.Crew.{Same};
+ghost use Rattle.conn_pool.specs.Guests.{HasVisited, IsSeatOf, IsVisit};
+ghost use Rattle.conn_pool.specs.Moves.{links_in, leaves_by};
+ghost use Rattle.conn_pool.specs.declared.crew.TheConstants.{PARTS};
 ghost use Rattle.conn_pool.specs.Shown.{AreShown};
 
-use super::bells::{Bells, Ringing};
+use super::bells::Bells;
+use super::desk::Desk;
 use super::dispatcher::{Dispatcher, Next, Opening};
 use super::reports::Reports;
-use conn_worker::{Gate, serve_link};
+use conn_worker::{Gate, Report};
 use edge_links::{Acceptor, Clock};
 use shared_book::{Refusal, SharedBook, tick};
-use socket_links::Wakeable;
+use socket_links::{Watched, Watching};
 use std::alloc::Global;
 use std::marker::Model;
 use std::sync::ledger::{Ledger, Share};
 use std::sync::{Mutex, Wait};
-use std::thread::{Threads, join, yield_now};
+use std::thread::{Threads, join};
 use turn_lock::{Seat, TurnLock};
 
 /// A worker, or several that were joined.
@@ -59,7 +65,7 @@ impl<L: Ledger, E: Ledger> Model for Crew<L, E> {
         → Parted c.reports.items (turns_of c.seat) (past_of c.seat)) };
 }
 
-// Whether a SHUTDOWN ran, which a Tick finds; the keys that are due leave by it.
+// Whether a SHUTDOWN ran, which a Tick finds.
 fn finds_stop<C: Clock, R: Wait>(
     rt: &R,
     lock: &TurnLock<SharedBook>,
@@ -78,81 +84,101 @@ fn finds_stop<C: Clock, R: Wait>(
     }
 }
 
+/// A link that was accepted, with a part of all that its worker has.
+#[derive(Drop)]
+pub struct Arrival<L: Opening, E: Ledger, K> {
+    pub seat: Seat<SharedBook>,
+    pub links: Share<L>,
+    pub gone: Share<E>,
+    pub reports: Reports,
+    pub link: K,
+    ghost place: { IsSeatOf L.lock L.setup seat },
+    ghost none: { seat.own ≡ [] },
+    ghost link_part: { (links.parts ≡ 1) × (links.amount ≡ 1) },
+    ghost part: { (gone.parts ≡ 1) × (gone.amount ≡ 0) },
+    ghost room: { (reports.items ≡ []) × (0 < reports.room) },
+    ghost each: { reports.each ≡ not (L.limit == 0) },
+}
+
 impl<L: Opening, E: Ledger> Crew<L, E> {
-    /// Takes links from the dispatcher, and serves each, until there are none any more.
-    fn work<A: Acceptor, C: Clock, G: Gate, R: Wait>(
-        self,
-        rt: &R,
+    /// The next link of the dispatcher. None is given any more where reports were lost, or there is
+    /// no memory for that of the link.
+    pub fn next<A: Acceptor>(
+        &mut self,
         alloc: Global,
-        dispatcher: &Mutex<Dispatcher<L, E, A>>,
         lock: &TurnLock<SharedBook>,
-        clock: &C,
-        gate: &G,
-        bells: &Bells,
-    ) -> Self
-    where
-        A::Link: Wakeable,
-        requires { Ready lock.now 1 self }
-        ensures same { Same self result }
-        ensures left { Leaves self result }
+        dispatcher: &mut Dispatcher<L, E, A>,
+    ) -> Next<Arrival<L, E, A::Link>>
+        requires own { lock.now ≡ L.lock }
+        requires of { IsOf L.lock L.setup (not (L.limit == 0)) self.old }
+        requires parts { (1 < self.old.seat.parts) × (1 < self.old.link_parts)
+            × (1 < self.old.gone_parts) }
+        ensures gives { Gives (links_in result) (leaves_by result) self.old self.new }
     {
-        let mut crew = self;
-        for _ in rt.forever() {
-            if !crew.serve_next(rt, alloc, dispatcher, lock, clock, gate, bells) {
-                return crew;
-            }
+        let mut reports = self.reports.new_alike(alloc);
+        if self.lost || reports.reserve().is_err() {
+            self.lost = true;
+            dispatcher.stop(&mut self.gone);
+            return Next::Over;
         }
-        unreachable!()
+        match dispatcher.next(&mut self.links, &mut self.gone) {
+            Next::Link(link) => Next::Link(Arrival {
+                seat: lock.split(&mut self.seat, 1),
+                links: self.links.split_off(1, 1),
+                gone: self.gone.split_off(1, 0),
+                reports,
+                link,
+            }),
+            Next::Wait => Next::Wait,
+            Next::Over => Next::Over,
+        }
     }
 
-    // Takes a link from the dispatcher, and serves it, where one is there. Whether more may come:
-    // none does behind a SHUTDOWN.
-    #[tactic(auto, using(crate::proofs::Leaving::looking))]
-    fn serve_next<A: Acceptor, C: Clock, G: Gate, R: Wait>(
+    /// Whether a SHUTDOWN ran, which a Tick finds; the keys that are due leave by it.
+    pub fn finds_stop<C: Clock, R: Wait>(
         &mut self,
         rt: &R,
-        alloc: Global,
-        dispatcher: &Mutex<Dispatcher<L, E, A>>,
         lock: &TurnLock<SharedBook>,
         clock: &C,
-        gate: &G,
-        bells: &Bells,
     ) -> bool
-    where
-        A::Link: Wakeable,
-        requires { Ready lock.now 1 self.old }
-        ensures same { Same self.old self.new }
-        ensures on { result ≡ true → self.new.gone ≡ self.old.gone }
-        ensures over { result ≡ false → Leaves self.old self.new }
+        requires lock { self.old.seat.lock ≡ lock.now }
+        ensures same { self.new ≡ record self.old { seat = self.new.seat } }
+        ensures looks { Looks self.old.seat self.new.seat }
+        ensures stopped { result ≡ true → IsStopped self.new.seat }
     {
-        if finds_stop(rt, lock, &mut self.seat, clock) {
-            return false;
+        finds_stop(rt, lock, &mut self.seat, clock)
+    }
+
+    /// What is left of one connection: its seat and its shares, with room for its report.
+    pub fn of_visit(
+        seat: Seat<SharedBook>,
+        links: Share<L>,
+        gone: Share<E>,
+        mut reports: Reports,
+        report: Report,
+    ) -> Self
+        requires visit { HasVisited L.lock L.setup report seat }
+        requires links { (links.parts ≡ 1) × (links.amount ≡ 1) }
+        requires gone { (gone.parts ≡ 1) × (gone.amount ≡ 0) }
+        requires room { (reports.items ≡ []) × (0 < reports.room) }
+        requires each { reports.each ≡ not (L.limit == 0) }
+        ensures { IsVisit L.lock L.setup (not (L.limit == 0)) result }
+    {
+        reports.push(report);
+        Crew {
+            seat,
+            links,
+            gone,
+            reports,
+            lost: false,
         }
-        // Where keys left by its Tick, connections were told.
-        bells.ring(rt);
-        if self.reports.reserve().is_err() {
-            self.lost = true;
-            dispatcher.lock(rt).stop(&mut self.gone);
-            return false;
-        }
-        // The dispatcher is let go before the link is served.
-        let next = dispatcher.lock(rt).next(&mut self.links, &mut self.gone);
-        match next {
-            Next::Link(mut link) => {
-                let bell = link.bell();
-                let gate = Ringing {
-                    rt,
-                    gate,
-                    bells,
-                    bell,
-                };
-                let report = serve_link(rt, alloc, lock, &mut self.seat, &mut link, clock, &gate);
-                self.reports.push(report);
-            }
-            Next::Wait => yield_now(),
-            Next::Over => return false,
-        }
-        true
+    }
+
+    /// Whether reports were lost, for want of memory.
+    pub fn has_lost(&self) -> bool
+        ensures { result ≡ self.now.lost }
+    {
+        self.lost
     }
 }
 
@@ -206,23 +232,23 @@ impl<L: Ledger, E: Ledger> Crew<L, E> {
 
     /// A new worker, with some of the parts.
     #[tactic(auto, using(crate::proofs::Parting::splitting))]
-    fn split(&mut self, alloc: Global, lock: &TurnLock<SharedBook>, workers: u64) -> Self
+    fn split(&mut self, alloc: Global, lock: &TurnLock<SharedBook>, parts: u64) -> Self
         requires lock { self.old.seat.lock ≡ lock.now }
-        requires parts { (1 ≤ workers) × (workers < self.old.seat.parts)
-            × (workers < self.old.link_parts) × (workers < self.old.gone_parts) }
+        requires parts { (1 ≤ parts) × (parts < self.old.seat.parts)
+            × (parts < self.old.link_parts) × (parts < self.old.gone_parts) }
         ensures old { self.new ≡ record self.old {
-          seat = record self.old.seat { parts = self.old.seat.parts - workers };
-          link_parts = self.old.link_parts - workers;
-          gone_parts = self.old.gone_parts - workers;
+          seat = record self.old.seat { parts = self.old.seat.parts - parts };
+          link_parts = self.old.link_parts - parts;
+          gone_parts = self.old.gone_parts - parts;
         } }
-        ensures new { Ready lock.now workers result × (result.seat.setup ≡ self.old.seat.setup)
-            × (result.seat.parts ≡ workers) × (result.gone ≡ 0)
+        ensures new { Ready lock.now parts result × (result.seat.setup ≡ self.old.seat.setup)
+            × (result.seat.parts ≡ parts) × (result.gone ≡ 0)
             × (result.each ≡ self.old.each) }
     {
         Crew {
-            seat: lock.split(&mut self.seat, workers),
-            links: self.links.split_off(workers, 0),
-            gone: self.gone.split_off(workers, 0),
+            seat: lock.split(&mut self.seat, parts),
+            links: self.links.split_off(parts, 0),
+            gone: self.gone.split_off(parts, 0),
             reports: self.reports.new_alike(alloc),
             lost: false,
         }
@@ -230,7 +256,7 @@ impl<L: Ledger, E: Ledger> Crew<L, E> {
 
     /// Joins the other into this one. Where there is no memory, the reports are lost.
     #[tactic(auto, using(crate::proofs::Parting::joining))]
-    fn join(&mut self, lock: &TurnLock<SharedBook>, other: Self)
+    pub fn join(&mut self, lock: &TurnLock<SharedBook>, other: Self)
         requires lock { (self.old.seat.lock ≡ lock.now) × (other.seat.lock ≡ lock.now) }
         requires setup { other.seat.setup ≡ self.old.seat.setup }
         requires each { other.each ≡ self.old.each }
@@ -260,11 +286,15 @@ impl<L: Ledger, E: Ledger> Crew<L, E> {
     }
 }
 
+/// How many parts a worker has of all that is shared: one of its own, and one for each of its
+/// connections.
+pub const PARTS: u64 = 1_000_000;
+
 /// So many workers, each in a thread of its own where one can be made.
 pub fn fan_out<
     L: Opening + Send + Sync,
     E: Ledger + Send + Sync,
-    A: Acceptor + Send,
+    A: Acceptor + Watching + Send,
     C: Clock + Sync,
     G: Gate + Sync,
     R: Threads + Wait + Sync,
@@ -280,25 +310,39 @@ pub fn fan_out<
     workers: u64,
 ) -> Crew<L, E>
 where
-    A::Link: Wakeable,
-    requires { Ready lock.now workers crew }
+    A::Link: Watched,
+    requires workers { (1 ≤ workers) × (workers ≤ 64) }
+    requires own { lock.now ≡ L.lock }
+    requires of { IsOf L.lock L.setup (not (L.limit == 0)) crew }
+    requires parts { Ready lock.now (workers * PARTS) crew }
     ensures same { Same crew result }
     ensures left { Leaves crew result }
 {
     if workers == 1 {
-        return crew.work(rt, alloc, dispatcher, lock, clock, gate, bells);
+        let desk = Desk {
+            rt,
+            alloc,
+            dispatcher,
+            lock,
+            clock,
+            gate,
+            bells,
+        };
+        return desk.work(crew);
     }
     let theirs = workers / 2;
     let ours = workers - theirs;
-    let other = crew.split(alloc, lock, theirs);
+    let other = crew.split(alloc, lock, theirs * PARTS);
     let (mut mine, others) = join(
         rt,
         || -> Crew<L, E>
-            requires { IsSync R.row × IsSync C.row × IsSync G.row × Ready lock.now ours crew }
+            requires { IsSync R.row × IsSync C.row × IsSync G.row
+                × IsReady L.lock L.setup (not (L.limit == 0)) lock.now ours crew }
             ensures { Same crew result × Leaves crew result }
         { fan_out(rt, alloc, dispatcher, lock, clock, gate, bells, crew, ours) },
         || -> Crew<L, E>
-            requires { IsSync R.row × IsSync C.row × IsSync G.row × Ready lock.now theirs other }
+            requires { IsSync R.row × IsSync C.row × IsSync G.row
+                × IsReady L.lock L.setup (not (L.limit == 0)) lock.now theirs other }
             ensures { Same other result × Leaves other result }
         {
             fan_out(

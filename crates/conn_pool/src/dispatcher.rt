@@ -1,17 +1,25 @@
 //! The acceptor under its lock, and the workers that take turns at it.
 ghost use Rattle.std.specs.Prelude.{◌≡◌, ◌≢◌, ℕ, ◌+◌, ◌<◌, ◌≤◌, true, false, Option, if◌then◌else◌};
+ghost use Rattle.atomic_table.specs.Seated.{TableId};
 ghost use Rattle.edge_links.specs.declared.counts.Counts.{Counts};
 ghost use Rattle.edge_links.specs.Counts.{Counted, nought};
+ghost use Rattle.serial_model.specs.declared.history.Limits.{Limits};
 ghost use Rattle.conn_pool.specs.Dispatcher.{still, after_giving};
 ghost use Rattle.conn_pool.specs.declared.dispatcher.Stage.{Stage};
 ghost use Rattle.conn_pool.specs.Moves.{links_in, leaves_by, EndedBy};
 
 use edge_links::{Accepted, Acceptor};
+use socket_links::{Lookout, Watching};
+use std::alloc::Global;
 use std::marker::Brand;
 use std::sync::ledger::{Book, Ledger, Share};
 
-/// Which call it is, with the acceptor's numbers at the call.
+/// Which call it is, with its lock and the acceptor's numbers at the call.
 pub trait Opening: Ledger {
+    ghost lock: { TableId };
+
+    ghost setup: { Option Limits };
+
     ghost before: { Counts };
 
     ghost left: { Option ℕ };
@@ -20,7 +28,19 @@ pub trait Opening: Ledger {
 }
 
 impl Opening for Brand {
-    ghost use Rattle.std.specs.Prelude.{None};
+    ghost use Rattle.std.specs.Prelude.{None, []};
+
+    ghost lock = { record {
+      words = 0;
+      slots = 0;
+      views_name = 0;
+      atom = 0;
+      block = 0;
+      offset = 0;
+      slot_names = [];
+    } };
+
+    ghost setup = { None };
 
     ghost before = { nought };
 
@@ -169,5 +189,18 @@ impl<L: Opening, E: Ledger, A: Acceptor> Dispatcher<L, E, A> {
         links.audit(mine);
         left.audit(gone);
         (acceptor, stage)
+    }
+}
+
+impl<L: Opening, E: Ledger, A: Acceptor + Watching> Dispatcher<L, E, A> {
+    /// A lookout of the acceptor, where it has any.
+    pub fn lookout(&self, alloc: Global) -> Option<Lookout> {
+        self.acceptor.lookout(alloc)
+    }
+
+    /// Whether the next turn at it may bring what no lookout tells of again: somebody, or that no
+    /// link is given any more.
+    pub fn is_due(&self) -> bool {
+        self.stage != Stage::Open || self.acceptor.is_due()
     }
 }

@@ -1,14 +1,19 @@
-//! Workers that serve the connections of one acceptor, each in a thread, over one book.
+//! Workers that serve the connections of one acceptor over one book, each a thread with many.
 #![tactic(auto)]
 
 mod all_reports;
 mod bells;
 mod crew;
+mod desk;
 mod dispatcher;
+mod guest;
+mod guests;
+mod hints;
 mod laws;
 mod reports;
 mod serve;
 mod totals;
+mod work;
 
 pub use laws::law_totals_add_up;
 pub use reports::{Kept, Reports};

@@ -1,15 +1,18 @@
 //! All workers, from the acceptor that is handed in to the book that comes back.
-ghost use Rattle.std.specs.Prelude.{◌≡◌, ◌<◌, ◌≤◌, ◌⊎◌, ◌==◌, true, false, not, length};
+ghost use Rattle.std.specs.Prelude.{◌≡◌, ◌<◌, ◌≤◌, ◌*◌, ◌⊎◌, ◌==◌, true, false, not, length};
 ghost use Rattle.std.specs.Prelude.{IfOk};
+ghost use Rattle.turn_lock.specs.Own.{IsWithin};
+ghost use Rattle.turn_lock.specs.Seats.{first_seat};
 ghost use Rattle.edge_links.specs.Counts.{Counted};
 ghost use Rattle.serial_model.specs.History.{is_stopped};
 ghost use Rattle.serial_model.specs.Steps.{AreValid};
 ghost use Rattle.conn_pool.specs.Complete.{Completes};
 ghost use Rattle.conn_pool.specs.Dispatcher.{after_giving, still};
 ghost use Rattle.conn_pool.specs.Outcome.{Stands};
+ghost use Rattle.conn_pool.specs.declared.crew.TheConstants.{PARTS};
 
 use super::bells::Bells;
-use super::crew::{Crew, fan_out};
+use super::crew::{Crew, PARTS, fan_out};
 use super::dispatcher::{Dispatcher, Opening, Stage};
 use super::reports::Reports;
 use conn_worker::Gate;
@@ -17,7 +20,7 @@ use edge_links::{Acceptor, Clock};
 use resp_value::NoMemory;
 use serial_model::Limits;
 use shared_book::{Opened, SharedBook, open_told};
-use socket_links::Wakeable;
+use socket_links::{Watched, Watching};
 use std::alloc::Global;
 use std::marker::Brand;
 use std::sync::ledger::{Blank, Ledger};
@@ -37,7 +40,7 @@ pub struct Served<A> {
 fn serve_named<
     L: Opening + Send + Sync,
     E: Ledger + Send + Sync,
-    A: Acceptor + Send + Drop,
+    A: Acceptor + Watching + Send + Drop,
     C: Clock + Sync,
     G: Gate + Sync,
     R: Threads + Wait + Sync,
@@ -45,6 +48,7 @@ fn serve_named<
     rt: &R,
     alloc: Global,
     limits: Limits,
+    opened: Opened,
     acceptor: A,
     clock: &C,
     gate: &G,
@@ -54,11 +58,14 @@ fn serve_named<
     connections: u64,
 ) -> Result<Served<A>, NoMemory>
 where
-    A::Link: Wakeable,
-    requires limits { AreValid limits }
-    requires workers { 1 ≤ workers }
-    requires links { (links.name ≡ L.name) × (links.parts ≡ L.parts) × (L.parts ≡ workers) }
-    requires gone { (gone.name ≡ E.name) × (gone.parts ≡ E.parts) × (E.parts ≡ workers) }
+    A::Link: Watched,
+    requires opened { (opened.seat ≡ first_seat opened.lock limits) × IsWithin opened.seat }
+    requires own { (opened.lock ≡ L.lock) × (opened.seat.setup ≡ L.setup) }
+    requires workers { (1 ≤ workers) × (workers ≤ 64) }
+    requires links { (links.name ≡ L.name) × (links.parts ≡ L.parts)
+        × (L.parts ≡ workers * PARTS) }
+    requires gone { (gone.name ≡ E.name) × (gone.parts ≡ E.parts)
+        × (E.parts ≡ workers * PARTS) }
     requires before { (A.counts acceptor ≡ L.before) × (still (A.left acceptor) ≡ L.left)
         × (L.limit ≡ connections) }
     ensures given { IfOk result (λ s. still (A.left acceptor)
@@ -79,7 +86,7 @@ where
 {
     let (book, share) = links.open::<L>();
     let (left, leaving) = gone.open::<E>();
-    let Opened { lock, seat, posted } = open_told(alloc, limits)?;
+    let Opened { lock, seat, posted } = opened;
     let bells = Bells::new(alloc, posted);
     let crew = Crew::new(seat, share, leaving, Reports::new(alloc, connections != 0));
     let dispatcher = Mutex::new(Dispatcher::new(acceptor, connections, book, left));
@@ -120,7 +127,7 @@ where
 /// links, or a SHUTDOWN ran; 0 is no limit. With a limit each report is kept, and without one their
 /// totals, so that a connection that came and went takes no memory here.
 pub fn serve_all<
-    A: Acceptor + Send + Drop,
+    A: Acceptor + Watching + Send + Drop,
     C: Clock + Sync,
     G: Gate + Sync,
     R: Threads + Wait + Sync,
@@ -135,7 +142,7 @@ pub fn serve_all<
     connections: u64,
 ) -> Result<Served<A>, NoMemory>
 where
-    A::Link: Wakeable,
+    A::Link: Watched,
     requires limits { AreValid limits }
     requires workers { (1 ≤ workers) × (workers ≤ 64) }
     ensures given { IfOk result (λ s. still (A.left acceptor)
@@ -158,15 +165,17 @@ where
         s.book s.accept_failed) }
     ensures kept { IfOk result (λ s. s.reports.each ≡ not (connections == 0)) }
 {
+    let opened = open_told(alloc, limits)?;
     serve_named::<Brand, Brand, A, C, G, R>(
         rt,
         alloc,
         limits,
+        opened,
         acceptor,
         clock,
         gate,
-        Blank::new(workers),
-        Blank::new(workers),
+        Blank::new(workers * PARTS),
+        Blank::new(workers * PARTS),
         workers,
         connections,
     )

@@ -29,7 +29,7 @@ use edge_links::{Clock, Net, Sink, Source};
 use resp_value::NoMemory;
 use script_program::ScriptSession;
 use serial_model::Limits;
-use socket_links::Wakeable;
+use socket_links::{Wakeable, Watched, Watching};
 use std::alloc::Global;
 use std::sync::Wait;
 use std::thread::Threads;
@@ -64,7 +64,8 @@ pub fn run<R: Threads + Wait + Terminal + Sync, S: Source, K: Sink, N: Net, C: C
     clock: &C,
 ) -> Outcome<N>
 where
-    N::Link: Wakeable,
+    N::Link: Wakeable + Watched,
+    N::Acceptor: Watching,
     ensures usage { command_of (map string_bytes words.now) ≡ None
         → UsageGives result.status (K.contents output.old) (K.contents output.new) }
     ensures usage_only { result.status ≡ status.Usage

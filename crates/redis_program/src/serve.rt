@@ -13,7 +13,7 @@ use command_line::ServeSettings;
 use edge_lines::SinkFailed;
 use edge_links::{Clock, Net, Sink};
 use serve_run::{ServeEnd, WrittenRun, serve_and_write};
-use socket_links::Wakeable;
+use socket_links::{Watched, Watching};
 use std::alloc::Global;
 use std::sync::Wait;
 use std::thread::Threads;
@@ -30,7 +30,8 @@ pub fn run_serve<R: Threads + Wait + Eprint + Sync, K: Sink, N: Net, C: Clock + 
     clock: &C,
 ) -> Outcome<N>
 where
-    N::Link: Wakeable,
+    N::Link: Watched,
+    N::Acceptor: Watching,
     requires limits { AreValid (limits_of settings.limits) }
     requires workers { (1 ≤ settings.workers) × (settings.workers ≤ 64) }
     ensures serve { ServeGives settings N.Acceptor.counts N.Acceptor.left result.served

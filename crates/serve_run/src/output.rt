@@ -11,7 +11,7 @@ use conn_pool::Served;
 use edge_lines::{SinkFailed, write_all};
 use edge_links::{Clock, Net, Sink};
 use serial_model::Limits;
-use socket_links::Wakeable;
+use socket_links::{Watched, Watching};
 use std::alloc::Global;
 use std::sync::Wait;
 use std::thread::Threads;
@@ -49,7 +49,8 @@ pub fn serve_and_write<N: Net, C: Clock + Sync, K: Sink, R: Threads + Wait + Epr
     output: &mut K,
 ) -> WrittenRun<N::Acceptor>
 where
-    N::Link: Wakeable,
+    N::Link: Watched,
+    N::Acceptor: Watching,
     requires limits { AreValid limits }
     requires workers { (1 ≤ workers) × (workers ≤ 64) }
     ensures served { IfSome result.served (λ s. ServesAll limits connections

@@ -10,7 +10,7 @@ use conn_pool::{Served, serve_all};
 use edge_links::{Clock, Net, NetFailed};
 use resp_value::NoMemory;
 use serial_model::Limits;
-use socket_links::Wakeable;
+use socket_links::{Watched, Watching};
 use std::alloc::Global;
 use std::sync::Wait;
 use std::thread::Threads;
@@ -47,7 +47,8 @@ pub fn serve<N: Net, C: Clock + Sync, R: Threads + Wait + Eprint + Sync>(
     clock: &C,
 ) -> ServeRun<N::Acceptor>
 where
-    N::Link: Wakeable,
+    N::Link: Watched,
+    N::Acceptor: Watching,
     requires limits { AreValid limits }
     requires workers { (1 ≤ workers) × (workers ≤ 64) }
     ensures served { IfSome result.served (λ s. ServesAll limits connections

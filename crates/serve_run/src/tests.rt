@@ -11,7 +11,7 @@ use edge_links::{
 };
 use resp_value::{NoMemory, Words};
 use serial_model::Limits;
-use socket_links::Wakeable;
+use socket_links::{Watched, Watching};
 use std::alloc::{AllocError, Global};
 use std::hint::spin_loop;
 use std::sync::Wait;
@@ -82,7 +82,8 @@ fn serves<N: Net, R: Threads + Wait + Eprint + Sync>(
     net: &mut N,
 ) -> (ServeEnd, bool, Vec<u8>)
 where
-    N::Link: Wakeable,
+    N::Link: Watched,
+    N::Acceptor: Watching,
     requires { (1 ≤ workers) × (workers ≤ 64) }
 {
     let clock = FixedClock { ms: 0 };
@@ -257,6 +258,8 @@ impl Acceptor for OpenAcceptor {
         }
     }
 }
+
+impl Watching for OpenAcceptor {}
 
 /// Holds SHUTDOWN until another connection was answered, and this one until a connection was
 /// dropped; it gives up at last.

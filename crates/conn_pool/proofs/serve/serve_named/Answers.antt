@@ -26,7 +26,7 @@ returns-clause-history g c =
     ap (λ (p : Place). p.setup) c.apart-seat.ensures.seat
     ∙ (c.fan_out-crew.ensures.same.1
     ∙ (ap (λ (t : Team). t.seat.setup) c.new-crew.ensures
-    ∙ ap (λ (p : Place). p.setup) c.in_ok-lock.ensures.seat)) in
+    ∙ ap (λ (p : Place). p.setup) c.requires.opened.0)) in
     let (u, is, legal) = c.in-Ok.ensures.sound.0 in
     let law = subst (λ z. Legal TurnStep z k.seen) (same_Some u c.args.limits (sym is ∙ setup))
     legal in
