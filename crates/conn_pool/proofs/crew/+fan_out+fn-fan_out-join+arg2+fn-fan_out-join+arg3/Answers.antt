@@ -70,9 +70,9 @@ half_send : (g : Over) (κs : Lfts 22) → IsSend (param 0 g.row.L) → IsSend (
     → IsSend (cycle.Lts-fan_out.arg-2-1 g.row.L g.row.E g.row.A g.row.C g.row.G g.row.R
     g.row.A-Link g.L.laws g.E.laws g.A.laws g.C.laws g.G.laws g.R.laws g.A.Link.laws g.L.Opening
     g.L.Opening-dict g.L.Ledger g.L.Ledger-dict g.E.Ledger g.E.Ledger-dict g.A.Acceptor
-    g.A.Acceptor-dict g.A.Link.Link g.A.Link.Link-dict g.A.Watching g.A.Watching-dict g.C.Clock g.C.Clock-dict g.G.Gate
-    g.G.Gate-dict g.R.Threads g.R.Threads-dict g.R.Wait g.R.Wait-dict g.A.Link.Watched
-    g.A.Link.Watched-dict g.A.Link.Destruct-dict κs)
+    g.A.Acceptor-dict g.A.Link.Link g.A.Link.Link-dict g.A.Watching g.A.Watching-dict
+    g.C.Clock g.C.Clock-dict g.G.Gate g.G.Gate-dict g.R.Threads g.R.Threads-dict g.R.Wait
+    g.R.Wait-dict g.A.Link.Watched g.A.Link.Watched-dict g.A.Link.Destruct-dict κs)
 half_send g κs l e a c s r =
     let shares : IsSync (dispatcher g) =
     dispatcher_sync (param 0 g.row.L) (param 1 g.row.E) (param 2 g.row.A) (param 6 g.row.A-Link)
@@ -112,9 +112,9 @@ left_send : (g : Over) (κs : Lfts 22) → IsSend (param 0 g.row.L) → IsSend (
     → IsSend (cycle.Lts-fan_out.arg-2-3 g.row.L g.row.E g.row.A g.row.C g.row.G g.row.R
     g.row.A-Link g.L.laws g.E.laws g.A.laws g.C.laws g.G.laws g.R.laws g.A.Link.laws g.L.Opening
     g.L.Opening-dict g.L.Ledger g.L.Ledger-dict g.E.Ledger g.E.Ledger-dict g.A.Acceptor
-    g.A.Acceptor-dict g.A.Link.Link g.A.Link.Link-dict g.A.Watching g.A.Watching-dict g.C.Clock g.C.Clock-dict g.G.Gate
-    g.G.Gate-dict g.R.Threads g.R.Threads-dict g.R.Wait g.R.Wait-dict g.A.Link.Watched
-    g.A.Link.Watched-dict g.A.Link.Destruct-dict κs)
+    g.A.Acceptor-dict g.A.Link.Link g.A.Link.Link-dict g.A.Watching g.A.Watching-dict
+    g.C.Clock g.C.Clock-dict g.G.Gate g.G.Gate-dict g.R.Threads g.R.Threads-dict g.R.Wait
+    g.R.Wait-dict g.A.Link.Watched g.A.Link.Watched-dict g.A.Link.Destruct-dict κs)
 left_send g κs l e = search crossing depth 40
 
 pub join-mine-requires-send-F : goal.join-mine-requires-send-F

@@ -1,5 +1,4 @@
 use Rattle.std.proofs.Common.{◌≡◌, sym, ap, subst, arith}
-use Rattle.turn_lock.specs.Own.{past_of, turns_of}
 use Rattle.shared_book.specs.Turns.{Place}
 use Rattle.conn_pool.specs.Ties.{Tied}
 use Rattle.conn_pool.proofs.Parting.{parted_same}

@@ -1,4 +1,4 @@
-use Rattle.std.proofs.Common.{◌≡◌, ◌∙◌, false, ap, subst, sym}
+use Rattle.std.proofs.Common.{◌≡◌, ◌∙◌, false, subst, sym}
 use Rattle.conn_pool.specs.Crew.{Goes, Present, hosted}
 use Rattle.conn_pool.proofs.Hosting.{goes_as, goes_left, goes_with}
 use Rattle.conn_pool.proofs.desk.Desk.look.Goals as goal

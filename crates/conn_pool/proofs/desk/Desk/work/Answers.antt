@@ -1,5 +1,5 @@
-use Rattle.std.proofs.Common.{rules, ◌≡◌, ◌∙◌, false, true, ap, refl, subst, sym}
-use Rattle.conn_pool.specs.Crew.{Goes, Hosts, Present, Team, hosted}
+use Rattle.std.proofs.Common.{rules, ◌∙◌, false, true, subst, sym}
+use Rattle.conn_pool.specs.Crew.{Goes, Present, hosted}
 use Rattle.conn_pool.proofs.Hosting.{done_same, goes_as, goes_left, goes_none, goes_then}
 use Rattle.conn_pool.proofs.Hosting.{work_hosts}
 use Rattle.conn_pool.proofs.desk.Desk.work.Goals as goal
